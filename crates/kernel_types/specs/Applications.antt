@@ -1,6 +1,6 @@
 -- Starts and ends of applications.
 use Rattle.std.specs.Prelude.{ℕ, Bool, true, false, List, [], ◌+◌, ◌==◌, ◌&&◌, ◌||◌, not, nat_lt, map, Option, Some, None, slice_get, if◌then◌else◌}
-use Rattle.std.specs.List.{list_all, list_any, find}
+use Rattle.std.specs.List.{list_all, list_any}
 use Rattle.std.specs.Prelude.{bytes_eq}
 use Rattle.kernel_values.specs.declared.scene.StartPort.{StartPort}
 use Rattle.kernel_values.specs.declared.state.Application.{Application}

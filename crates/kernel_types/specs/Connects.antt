@@ -1,5 +1,5 @@
 -- `connect` and `accept`: how a connect goes about a port that is there or not, and how it is decided.
-use Rattle.std.specs.Prelude.{ℕ, Bool, true, false, List, [], ◌∷◌, ◌++◌, ◌+◌, ◌==◌, ◌&&◌, ◌||◌, not, Option, Some, None, bit_and, slice_get, if◌then◌else◌}
+use Rattle.std.specs.Prelude.{ℕ, Bool, true, false, List, [], ◌∷◌, ◌++◌, ◌+◌, ◌==◌, ◌||◌, not, Option, Some, None, bit_and, slice_get, if◌then◌else◌}
 use Rattle.std.specs.List.{find, position_or_len}
 use Rattle.kernel_values.specs.Words.{is_path}
 use Rattle.kernel_values.specs.declared.flags.PortFlags.{PortFlags}

@@ -1,5 +1,5 @@
 -- The events of an object, recomputed from the state. Their bits are those of the flag type `Events`.
-use Rattle.std.specs.Prelude.{ℕ, Bool, true, false, zero, suc, List, [], ◌∷◌, ◌+◌, ◌==◌, not, length, Option, Some, None, bit_and}
+use Rattle.std.specs.Prelude.{ℕ, Bool, true, false, zero, suc, List, [], ◌∷◌, ◌+◌, ◌==◌, not, Option, Some, None, bit_and}
 use Rattle.std.specs.List.{list_any}
 use Rattle.kernel_values.specs.declared.state.Object.{Object}
 use Rattle.kernel_values.specs.declared.state.Body.{Body}

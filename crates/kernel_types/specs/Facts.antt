@@ -1,8 +1,7 @@
 -- What a kernel tells of its state.
-use Rattle.std.specs.Prelude.{ℕ, Bool, true, false, List, ◌==◌, ◌&&◌, not, nat_le, length, Option, Some, None, slice_get, if◌then◌else◌}
+use Rattle.std.specs.Prelude.{ℕ, Bool, ◌&&◌, not, nat_le, length, Option, Some, None, slice_get, if◌then◌else◌}
 use Rattle.std.specs.List.{list_all, sum_by}
 use Rattle.kernel_values.specs.declared.entry.ActorStatus.{ActorStatus}
-use Rattle.kernel_values.specs.declared.entry.ActorStatus.TheVariants as status
 use Rattle.kernel_values.specs.declared.entry.EndFacts.{EndFacts}
 use Rattle.kernel_values.specs.declared.flags.Events.{Events}
 use Rattle.kernel_values.specs.declared.state.CoreState.{CoreState}

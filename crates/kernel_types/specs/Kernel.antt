@@ -1,6 +1,5 @@
 -- What the trait of kernels says of one step.
 use Rattle.std.specs.Prelude.{◌≡◌, ◌<◌, ℕ, Option, Some, None, ⊤, ◌+◌, ◌≢◌}
-use Rattle.std.specs.Option.{is_some}
 use Rattle.kernel_values.specs.declared.entry.Event.{Event}
 use Rattle.kernel_values.specs.declared.entry.Event.TheVariants as event
 use Rattle.kernel_values.specs.declared.entry.Entry.{Entry}

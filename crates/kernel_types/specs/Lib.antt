@@ -10,12 +10,14 @@ pub mod Memories
 pub mod Messages
 pub mod Names
 pub mod Objects
+pub mod OnLiterals
 pub mod Opening
 pub mod Outcome
 pub mod Ports
 pub mod Reach
 pub mod Reports
 pub mod Scripts
+pub mod Serial
 pub mod Sets
 pub mod Step
 pub mod Stories

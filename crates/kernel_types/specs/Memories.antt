@@ -1,5 +1,5 @@
 -- `memref`, `mread` and `mwrite`: memory references.
-use Rattle.std.specs.Prelude.{ℕ, Bool, List, [], ◌∷◌, ◌++◌, ◌+◌, ◌==◌, ◌&&◌, not, nat_lt, nat_le, length, take, drop, replicate, Option, Some, None, bit_and, if◌then◌else◌}
+use Rattle.std.specs.Prelude.{ℕ, Bool, List, [], ◌++◌, ◌+◌, ◌==◌, ◌&&◌, not, nat_le, length, take, drop, replicate, Option, Some, None, bit_and, if◌then◌else◌}
 use Rattle.kernel_values.specs.declared.flags.MemFlags.{MemFlags}
 use Rattle.kernel_values.specs.declared.reply.Reply.TheVariants as reply
 use Rattle.kernel_values.specs.declared.errno.Errno.TheVariants as errno

@@ -1,5 +1,5 @@
 -- `send`, `get`, `read` and `put`.
-use Rattle.std.specs.Prelude.{ℕ, Bool, true, false, zero, suc, List, [], ◌∷◌, ◌++◌, ◌+◌, ◌==◌, ◌&&◌, ◌||◌, not, nat_lt, nat_le, length, min, map, take, drop, Option, Some, None, if◌then◌else◌}
+use Rattle.std.specs.Prelude.{ℕ, Bool, true, false, List, [], ◌∷◌, ◌++◌, ◌+◌, ◌==◌, ◌&&◌, ◌||◌, not, nat_lt, nat_le, length, min, map, take, drop, Option, Some, None, if◌then◌else◌}
 use Rattle.std.specs.List.{find, filter, list_any, list_all, position_or_len, range_with_len}
 use Rattle.std.specs.Option.{is_some, unwrap_or}
 use Rattle.kernel_values.specs.declared.reply.Reply.TheVariants as reply
@@ -15,7 +15,7 @@ use Rattle.kernel_values.specs.declared.state.TableEntry.{TableEntry}
 use Rattle.kernel_values.specs.declared.state.CoreState.{CoreState}
 use Rattle.kernel_types.specs.Objects.{map_at, end_of, memory_of, end_changed}
 use Rattle.kernel_types.specs.Tables.{table_of, entry_at, has_room, free_handle, installed, with_table}
-use Rattle.kernel_types.specs.Events.{is_filled, has_filled, is_unopened, is_disconnected}
+use Rattle.kernel_types.specs.Events.{is_filled, is_disconnected}
 use Rattle.kernel_types.specs.Connects.{client_of}
 use Rattle.kernel_types.specs.Outcome.{Outcome, gives, gives_with, refuses, sent_seq, opened_seq, retired_seq}
 

@@ -1,7 +1,7 @@
 -- The entries that name objects. A table entry, an entry of the bridge and a wait name an object; a port
 -- names its pending server ends, a set its members, and an end the objects in its messages. A peer and a
 -- path name nothing. Every entry counts, also where one holder has two of them.
-use Rattle.std.specs.Prelude.{ℕ, Bool, List, [], ◌∷◌, ◌++◌, ◌==◌, Option, Some, None, map}
+use Rattle.std.specs.Prelude.{ℕ, List, [], ◌∷◌, ◌++◌, ◌==◌, Option, Some, None, map}
 use Rattle.std.specs.List.{flat_map, count_by}
 use Rattle.kernel_values.specs.declared.state.Object.{Object}
 use Rattle.kernel_values.specs.declared.state.Body.{Body}

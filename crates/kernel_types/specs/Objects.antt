@@ -1,6 +1,6 @@
 -- The objects of a state, by their numbers. An object that is not there is no port, no end, no set and
 -- no memory reference, and a change of it changes nothing.
-use Rattle.std.specs.Prelude.{ℕ, Bool, true, false, List, [], ◌∷◌, ◌++◌, ◌+◌, ◌==◌, Option, Some, None, slice_get, slice_set}
+use Rattle.std.specs.Prelude.{ℕ, Bool, false, List, [], ◌∷◌, ◌++◌, ◌+◌, ◌==◌, Option, Some, None, slice_get, slice_set}
 use Rattle.std.specs.List.{position_or_len, find, list_any}
 use Rattle.std.specs.Option.{option_map}
 use Rattle.std.specs.Prelude.{bytes_eq}
@@ -12,7 +12,6 @@ use Rattle.kernel_values.specs.declared.state.ChannelEnd.{ChannelEnd}
 use Rattle.kernel_values.specs.declared.state.HandleSet.{HandleSet}
 use Rattle.kernel_values.specs.declared.state.MemoryRef.{MemoryRef}
 use Rattle.kernel_values.specs.declared.state.EndState.{EndState}
-use Rattle.kernel_values.specs.declared.state.EndState.TheVariants as end_state
 use Rattle.kernel_values.specs.declared.state.Connector.{Connector}
 use Rattle.kernel_values.specs.declared.state.CoreState.{CoreState}
 

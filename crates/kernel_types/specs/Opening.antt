@@ -1,9 +1,8 @@
 -- The state in which a scene begins.
-use Rattle.std.specs.Prelude.{ℕ, List, [], ◌++◌, ◌+◌, map, Option, None, Bool, if◌then◌else◌, not}
+use Rattle.std.specs.Prelude.{ℕ, List, [], map, None, if◌then◌else◌, not}
 use Rattle.std.specs.List.{flat_map, enumerate_from}
 use Rattle.kernel_values.specs.declared.scene.App.{App}
 use Rattle.kernel_values.specs.declared.scene.Manifest.{Manifest}
-use Rattle.kernel_values.specs.declared.script.Command.{Command}
 use Rattle.kernel_values.specs.declared.entry.ActorStatus.TheVariants as status
 use Rattle.kernel_values.specs.declared.state.Application.{Application}
 use Rattle.kernel_values.specs.declared.state.Thread.{Thread}

@@ -1,5 +1,5 @@
 -- What a call or the end of a wait comes to: its answer, which messages it sent, opened and retired, and the state after it.
-use Rattle.std.specs.Prelude.{ℕ, Option, Some, None}
+use Rattle.std.specs.Prelude.{ℕ, Some, None}
 use Rattle.kernel_values.specs.declared.reply.Answer.{Answer}
 use Rattle.kernel_values.specs.declared.reply.Answer.TheVariants.{Waits, Gives, Refuses}
 use Rattle.kernel_values.specs.declared.reply.Reply.{Reply}

@@ -1,5 +1,5 @@
 -- Which objects are reached: the least set that holds what a root names and what a reached object names.
-use Rattle.std.specs.Prelude.{ℕ, Bool, true, false, zero, suc, List, [], ◌∷◌, ◌+◌, ◌==◌, length, map, Option, Some, None, IsTrue, Contains}
+use Rattle.std.specs.Prelude.{ℕ, Bool, true, false, zero, suc, List, [], ◌+◌, ◌==◌, length, map, Option, Some, None, Contains}
 use Rattle.std.specs.List.{filter, list_any}
 use Rattle.kernel_types.specs.Names.{Name, root, held_by}
 

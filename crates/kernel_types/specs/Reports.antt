@@ -1,5 +1,5 @@
 -- What a wait would report now, or nothing, and the state after the report.
-use Rattle.std.specs.Prelude.{ℕ, Bool, true, false, List, [], ◌∷◌, ◌++◌, ◌==◌, ◌&&◌, not, nat_lt, Option, Some, None, if◌then◌else◌}
+use Rattle.std.specs.Prelude.{ℕ, Bool, true, List, [], ◌∷◌, ◌++◌, ◌==◌, ◌&&◌, not, nat_lt, Option, Some, None, if◌then◌else◌}
 use Rattle.std.specs.List.{filter, find}
 use Rattle.kernel_values.specs.declared.state.Object.{Object}
 use Rattle.kernel_values.specs.declared.state.ChannelEnd.{ChannelEnd}

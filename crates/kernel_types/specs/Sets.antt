@@ -1,6 +1,6 @@
 -- `set`, `add`, `del` and `mod`: handle sets.
-use Rattle.std.specs.Prelude.{ℕ, Bool, true, false, zero, suc, List, [], ◌∷◌, ◌++◌, ◌+◌, ◌==◌, ◌&&◌, not, nat_lt, nat_le, length, map, max, Option, Some, None, if◌then◌else◌}
-use Rattle.std.specs.List.{filter, flat_map, list_any, find, position_or_len}
+use Rattle.std.specs.Prelude.{ℕ, Bool, zero, suc, List, [], ◌∷◌, ◌++◌, ◌+◌, ◌==◌, not, nat_lt, nat_le, length, map, max, Option, Some, None, if◌then◌else◌}
+use Rattle.std.specs.List.{filter, flat_map, list_any, position_or_len}
 use Rattle.std.specs.Option.{is_some}
 use Rattle.kernel_values.specs.declared.flags.Events.{Events}
 use Rattle.kernel_values.specs.declared.reply.Reply.TheVariants as reply

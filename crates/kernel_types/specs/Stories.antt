@@ -1,5 +1,5 @@
 -- The story of an end: the numbers of the messages that were sent to it, opened and retired, in the order of a history.
-use Rattle.std.specs.Prelude.{◌≡◌, ◌≤◌, ℕ, List, [], ◌==◌, length, Option, Some, None, if◌then◌else◌, Contains}
+use Rattle.std.specs.Prelude.{◌≡◌, ◌≤◌, ℕ, List, ◌==◌, length, Option, Some, None, if◌then◌else◌, Contains}
 use Rattle.std.specs.List.{filter_map, range_with_len, All, IsDistinct}
 use Rattle.std.specs.Prelude.{nat_eq}
 use Rattle.kernel_values.specs.declared.entry.Entry.{Entry}

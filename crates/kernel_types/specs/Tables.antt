@@ -1,5 +1,5 @@
 -- Handle tables: at most 64 numbers, each of which names an object and has a cookie.
-use Rattle.std.specs.Prelude.{ℕ, Bool, List, [], ◌∷◌, ◌+◌, ◌==◌, ◌&&◌, not, nat_lt, nat_le, length, Option, Some, None, slice_get}
+use Rattle.std.specs.Prelude.{ℕ, Bool, List, [], ◌+◌, ◌==◌, not, nat_lt, nat_le, length, Option, Some, None, slice_get}
 use Rattle.std.specs.List.{find, filter, insert, list_any, position_or_len, range_with_len}
 use Rattle.std.specs.Option.{unwrap_or}
 use Rattle.kernel_values.specs.declared.state.TableEntry.{TableEntry}

@@ -1,5 +1,5 @@
 -- Threads: which wait, and what they wait for.
-use Rattle.std.specs.Prelude.{ℕ, Option, Some, None, false}
+use Rattle.std.specs.Prelude.{ℕ, Option, false}
 use Rattle.kernel_values.specs.declared.state.Thread.{Thread}
 use Rattle.kernel_values.specs.declared.state.Activity.{Activity}
 use Rattle.kernel_values.specs.declared.state.Activity.TheVariants as activity

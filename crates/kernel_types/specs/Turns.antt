@@ -1,6 +1,6 @@
 -- Turns: which event a turn means, the history of a list of turns, and the serial order.
-use Rattle.std.specs.Prelude.{◌≡◌, ℕ, Bool, true, false, zero, suc, List, [], ◌∷◌, ◌++◌, ◌+◌, ◌==◌, ◌||◌, not, nat_lt, length, map, Option, Some, None, slice_get, if◌then◌else◌}
-use Rattle.std.specs.List.{filter, find, enumerate_from, range_with_len}
+use Rattle.std.specs.Prelude.{ℕ, Bool, true, false, zero, suc, List, [], ◌∷◌, ◌++◌, ◌+◌, not, nat_lt, length, Option, Some, None, slice_get, if◌then◌else◌}
+use Rattle.std.specs.List.{filter, find, range_with_len}
 use Rattle.std.specs.Option.{option_map}
 use Rattle.kernel_values.specs.declared.call.Call.{Call}
 use Rattle.kernel_values.specs.declared.entry.Entry.{Entry}

@@ -1,5 +1,5 @@
 -- `wait` and `waitany`, and how waits end.
-use Rattle.std.specs.Prelude.{ℕ, Bool, true, false, zero, suc, List, ◌+◌, ◌==◌, ◌&&◌, not, nat_le, Option, Some, None, slice_get, if◌then◌else◌}
+use Rattle.std.specs.Prelude.{ℕ, Bool, false, List, ◌+◌, ◌==◌, ◌&&◌, not, nat_le, Option, Some, None, slice_get, if◌then◌else◌}
 use Rattle.std.specs.List.{list_any}
 use Rattle.std.specs.Option.{is_some}
 use Rattle.kernel_values.specs.declared.call.Timeout.{Timeout}
@@ -18,7 +18,7 @@ use Rattle.kernel_types.specs.Objects.{memory_of, is_there}
 use Rattle.kernel_types.specs.Tables.{table_of, entry_at}
 use Rattle.kernel_types.specs.Connects.{connect_decision}
 use Rattle.kernel_types.specs.Reports.{Reported, report_of, event_reply}
-use Rattle.kernel_types.specs.Threads.{waits_on, with_activity, running_activity}
+use Rattle.kernel_types.specs.Threads.{waits_on}
 use Rattle.kernel_types.specs.Outcome.{Outcome, gives, refuses}
 
 -- the time at which a wait ends that begins now

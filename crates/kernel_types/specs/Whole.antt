@@ -1,5 +1,5 @@
 -- Whole histories: each actor's calls are its script's, each once, in order, to its end.
-use Rattle.std.specs.Prelude.{◌≡◌, ◌≤◌, ℕ, Bool, true, false, List, [], ◌∷◌, ◌+◌, ◌==◌, ◌&&◌, length, Option, Some, None, slice_get, if◌then◌else◌, IsTrue}
+use Rattle.std.specs.Prelude.{◌≡◌, ◌≤◌, ℕ, Bool, false, List, ◌+◌, ◌==◌, ◌&&◌, length, Option, Some, None, slice_get, if◌then◌else◌, IsTrue}
 use Rattle.std.specs.List.{filter_map}
 use mathlib.Core.List.{IsPrefix}
 use Rattle.kernel_values.specs.declared.call.Call.{Call}
