@@ -19,7 +19,7 @@ use Rattle.kernel_types.specs.Opening.{opening}
 use Rattle.kernel_types.specs.Step.{Stepped, step, statuses, idle_lawful, device_has_work}
 use Rattle.kernel_types.specs.History.{entry_of}
 use Rattle.kernel_types.specs.Waits.{movable}
-use Rattle.kernel_types.specs.Facts.{status_at}
+use Rattle.kernel_types.specs.Facts.{status_at, is_at_end}
 
 -- what a run has come to: its state and its history
 pub record Run : Type 0 where
@@ -81,6 +81,14 @@ run_from stepper scripts k run (turn ∷ turns) = elim (run_turn stepper scripts
 
 unfoldable pub run_by : SceneValue → List Turn → Outturn
 run_by scene turns = run_from step (scripts_of scene) 0 (opening_run scene) turns
+
+-- a replay is to be whole: where the list ends before that, the turn after its last one is refused
+abbrev pub whole_or_refused : ℕ → Outturn → Outturn
+whole_or_refused count (ran run) = (if is_at_end run.state then ran run else refused count)
+whole_or_refused count (refused k) = refused k
+
+unfoldable pub replay_of : SceneValue → Outturn
+replay_of scene = whole_or_refused (length scene.turns) (run_by scene scene.turns)
 
 -- The serial order: among the actors after the one that took the last turn, and then from the first again, the
 -- first that runs or may move; else the device; else Idle; else there is no next turn.
