@@ -1,12 +1,17 @@
 -- Which objects are reached: the least set that holds what a root names and what a reached object names.
-use Rattle.std.specs.Prelude.{ℕ, Bool, true, false, zero, suc, List, [], ◌+◌, ◌==◌, length, map, Option, Some, None, Contains}
+use Rattle.std.specs.Prelude.{◌≡◌, ◌⊎◌, ℕ, Bool, true, false, zero, suc, List, [], ◌∷◌, ◌+◌, ◌==◌, length, map, Option, Some, None}
 use Rattle.std.specs.List.{filter, list_any}
 use Rattle.kernel_types.specs.Names.{Name, root, held_by}
 
+-- the name is one of these
+abbrev pub Among : Name → List Name → Type 0
+Among name [] = ⊥
+Among name (other ∷ others) = (other ≡ name) ⊎ Among name others
+
 -- an object is reached if a root names it, or if a reached object names it
 pub data Reached (entries : List Name) : ℕ → Type 0 where
-  by_root : (object : ℕ) → Contains entries (root object) → Reached entries object
-  by_holder : (holder object : ℕ) → Reached entries holder → Contains entries (held_by holder object) → Reached entries object
+  by_root : (object : ℕ) → Among (root object) entries → Reached entries object
+  by_holder : (holder object : ℕ) → Reached entries holder → Among (held_by holder object) entries → Reached entries object
 
 -- the same, computed in rounds: `Reached` and `reached_by` agree, by the law `marks_are_reached`
 

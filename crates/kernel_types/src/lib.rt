@@ -3,6 +3,7 @@
 #![tactic(auto)]
 
 pub mod kernel;
+pub mod laws;
 
 pub use kernel::{IpcKernel, StepCause, StepRefused};
 pub use kernel_values as values;
