@@ -35,4 +35,4 @@ end_facts s = facts_of s.core
 
 -- every actor is Ended or was never started, and the device has no work
 unfoldable pub is_at_end : State → Bool
-is_at_end s = list_all (λ status. not (has_begun_and_goes_on status)) (statuses s) && not (device_has_work s.world)
+is_at_end s = list_all (λ status. not (has_begun_and_goes_on status)) (statuses s) && not (device_has_work s)

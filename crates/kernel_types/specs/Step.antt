@@ -24,7 +24,7 @@ use Rattle.kernel_types.specs.Messages.{send, get, read, put}
 use Rattle.kernel_types.specs.Handles.{set_cookie, close, dup}
 use Rattle.kernel_types.specs.Sets.{set_create, set_add, set_del, set_mod}
 use Rattle.kernel_types.specs.Memories.{mem_create, mem_read, mem_write}
-use Rattle.kernel_types.specs.Waits.{wait, wait_any, end_of_wait, thread_may_move}
+use Rattle.kernel_types.specs.Waits.{wait, wait_any, end_of_wait, thread_may_move, thread_movable}
 use Rattle.kernel_types.specs.Applications.{exit, finish}
 use Rattle.kernel_types.specs.Threads.{with_activity, running_activity, activity_changed}
 use Rattle.kernel_types.specs.Outcome.{Outcome}
@@ -108,14 +108,18 @@ is_running (status.Running start) = true
 is_running other = false
 
 -- there is no device yet, so it never has work
-unfoldable pub device_has_work : World → Bool
-device_has_work world = false
+unfoldable pub device_has_work : State → Bool
+device_has_work s = false
+
+-- whether an actor waits and may move; the calls of clients are not built yet, so none of them waits
+unfoldable pub movable : State → ℕ → Bool
+movable s actor = thread_movable s.core actor
 
 -- Idle: some actor that was started has not ended, every such actor waits, none may move, and the device has no work
 
 unfoldable pub idle_lawful : State → Bool
 idle_lawful s = list_any has_begun_and_goes_on (statuses s) && not (list_any is_running (statuses s))
-    && not (list_any (thread_may_move s.core) s.core.threads) && not (device_has_work s.world)
+    && not (list_any (thread_may_move s.core) s.core.threads) && not (device_has_work s)
 
 abbrev pub sooner : Option ℕ → Option ℕ → Option ℕ
 sooner None other = other

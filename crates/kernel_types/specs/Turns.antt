@@ -16,9 +16,8 @@ use Rattle.kernel_values.specs.SceneLaw.{SceneValue, scripts_of}
 use Rattle.kernel_types.specs.Scripts.{next_call, stand_on, script_begin}
 use Rattle.kernel_types.specs.Whole.{answers_in}
 use Rattle.kernel_types.specs.Opening.{opening}
-use Rattle.kernel_types.specs.Step.{Stepped, step, statuses, idle_lawful, device_has_work}
+use Rattle.kernel_types.specs.Step.{Stepped, step, statuses, idle_lawful, device_has_work, movable}
 use Rattle.kernel_types.specs.History.{entry_of}
-use Rattle.kernel_types.specs.Waits.{movable}
 use Rattle.kernel_types.specs.Facts.{status_at, is_at_end}
 
 -- what a run has come to: its state and its history
@@ -95,7 +94,7 @@ replay_of scene = whole_or_refused (length scene.turns) (run_by scene scene.turn
 
 abbrev pub can_take_turn : State → ℕ → Option ActorStatus → Bool
 can_take_turn s actor (Some (status.Running start)) = true
-can_take_turn s actor (Some (status.Waiting start)) = movable s.core actor
+can_take_turn s actor (Some (status.Waiting start)) = movable s actor
 can_take_turn s actor other = false
 
 abbrev pub takes_turn : State → ℕ → Bool
@@ -110,7 +109,7 @@ abbrev pub actors_in_turn : Option ℕ → ℕ → List ℕ
 actors_in_turn last count = filter (is_later last) (range_with_len 0 count) ++ filter (λ actor. not (is_later last actor)) (range_with_len 0 count)
 
 abbrev pub kernel_turn : State → Option Turn
-kernel_turn s = (if device_has_work s.world then Some turn.Device else if idle_lawful s then Some turn.Idle else None)
+kernel_turn s = (if device_has_work s then Some turn.Device else if idle_lawful s then Some turn.Idle else None)
 
 abbrev pub turn_or_kernel : State → Option ℕ → Option Turn
 turn_or_kernel s (Some actor) = Some (turn.Actor actor)

@@ -90,5 +90,5 @@ may_move c None = false
 may_move c (Some thread) = thread_may_move c thread
 
 -- whether a thread waits and may move
-unfoldable pub movable : CoreState → ℕ → Bool
-movable c thread = may_move c (slice_get c.threads thread)
+unfoldable pub thread_movable : CoreState → ℕ → Bool
+thread_movable c thread = may_move c (slice_get c.threads thread)

@@ -4,8 +4,7 @@ ghost use Rattle.std.specs.Prelude.{◌≡◌, ◌≢◌, ◌<◌, ℕ, Some, le
 ghost use Rattle.kernel_values.specs.declared.state.State.{State};
 ghost use Rattle.kernel_values.specs.declared.entry.Event.{Event};
 ghost use Rattle.kernel_types.specs.Kernel.{Did, Refused};
-ghost use Rattle.kernel_types.specs.Step.{statuses, idle_lawful, device_has_work};
-ghost use Rattle.kernel_types.specs.Waits.{movable};
+ghost use Rattle.kernel_types.specs.Step.{statuses, idle_lawful, device_has_work, movable};
 ghost use Rattle.kernel_types.specs.Facts.{status_at, is_client, names_at, events_at, end_facts, is_at_end};
 
 use kernel_values::{ActorId, ActorStatus, EndFacts, Entry, Event, Events, ObjId};
@@ -50,16 +49,16 @@ pub trait IpcKernel {
         requires { actor.0 < length (statuses (state self.now)) }
         ensures { status_at (state self.now) actor.0 ≡ Some result };
 
-    /// Whether a thread waits and may move.
+    /// Whether the actor waits and may move.
     fn movable(&self, actor: ActorId) -> bool
-        ensures { result ≡ movable (state self.now).core actor.0 };
+        ensures { result ≡ movable (state self.now) actor.0 };
 
     /// Whether the actor is a client of the scene.
     fn is_client(&self, actor: ActorId) -> bool
         ensures { result ≡ is_client (state self.now) actor.0 };
 
     fn device_has_work(&self) -> bool
-        ensures { result ≡ device_has_work (state self.now).world };
+        ensures { result ≡ device_has_work (state self.now) };
 
     fn idle_lawful(&self) -> bool
         ensures { result ≡ idle_lawful (state self.now) };
