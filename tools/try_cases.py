@@ -9,10 +9,11 @@ a crate of a scratch clone that crates.txt lists over the crates of the definiti
 proofs/CaseN.antt with one lemma by computation. For the command `serial` with status 0 it says
 that the serial history of the scene is the printed one with its end line, for `replay` with
 status 0 the same of the history of the scene's turns, and for `replay` with status 7 that the
-printed turn is refused. With --run it checks the crate, and prints for each case: agrees, differs
-(with the first difference), or limit (the checker stopped before it had an answer). Tried are the
-cases that print the history form, of scenes without clients, smaller ones first; --largest leaves
-out those that print more bytes. Every name of the definitions stands in the table below."""
+printed turn is refused; where the case prints the form counts or summary, the lemma is of that.
+With --run it checks the crate, and prints for each case: agrees, differs
+(with the first difference), or limit (the checker stopped before it had an answer). Tried are scenes
+without clients, not in the form actors, smaller ones first; --largest leaves out cases that print
+more bytes. Every name of the definitions stands in the table below."""
 import argparse, json, os, re, subprocess, sys, uuid
 
 # ---------------------------------------------------------------- names of the definitions
@@ -32,8 +33,13 @@ IMPORTS = [
 ]
 # What the shown entries stand on.
 SHOWN_IMPORTS = [
-    "Rattle.std.specs.Prelude.{ℕ, List, [], ◌∷◌, ◌≡◌}",
+    "Rattle.std.specs.Prelude.{ℕ, List, [], ◌∷◌, ◌+◌, None, Some}",
     DECLARED + ".call.Call.{Call}",
+    DECLARED + ".reply.Answer.TheVariants as answer",
+    DECLARED + ".state.State.{State}",
+    "Rattle.kernel_values.specs.SceneLaw.{SceneValue}",
+    "Rattle.kernel_types.specs.Opening.{opening}",
+    "Rattle.kernel_types.specs.Step.{full_step}",
     DECLARED + ".reply.Answer.{Answer}",
     DECLARED + ".entry.Entry.{Entry}",
     DECLARED + ".entry.Event.{Event}",
@@ -46,7 +52,7 @@ SCENE = "SceneValue"                    # what contracts see of a scene
 SERIAL = "serial_run"                   # SCENE → Run
 REPLAY = "full_replay"                  # SCENE → Outturn
 TURNS = {"D": "turn.Device", "I": "turn.Idle"}
-DEFINITIONS = ["Rattle.kernel_types.specs.Serial.{serial_run, full_replay}", "Rattle.kernel_types.specs.Turns.{ran, refused}"]
+DEFINITIONS = ["Rattle.kernel_types.specs.Serial.{serial_run, full_replay}", "Rattle.kernel_types.specs.Turns.{ran, refused, opening_run}"]
 UNFOLDING = ["kernel_on_literals"]      # opens every definition that a history needs
 UNFOLDING_IMPORTS = ["Rattle.kernel_types.specs.OnLiterals.{kernel_on_literals}"]
 FLAGS = "record {{ 0 = {} }}"           # a flag type, from its bits
@@ -396,6 +402,49 @@ pub data Replayed : Type 0 where
 abbrev pub replayed : Outturn → Replayed
 replayed (ran run) = Whole (told run)
 replayed (refused k) = Stopped k
+
+-- What the other forms print: the objects and names after each entry, and the entries by their kinds.
+abbrev pub counts_from : State → List Entry → List (ℕ × ℕ)
+counts_from s [] = []
+counts_from s (entry ∷ entries) = elim (full_step s entry.event) as (λ _. List (ℕ × ℕ)) [
+      | None ↦ []
+      | Some stepped ↦ ((end_facts stepped.state).objects, (end_facts stepped.state).names) ∷ counts_from stepped.state entries ]
+
+abbrev pub kind_of : Event → Answer → ℕ × ℕ × ℕ × ℕ × ℕ × ℕ
+kind_of (event.Begin actor start call) (answer.Gives reply) = (1, 0, 0, 0, 1, 0)
+kind_of (event.Begin actor start call) (answer.Refuses errno) = (1, 0, 0, 0, 0, 1)
+kind_of (event.Begin actor start call) other = (1, 0, 0, 0, 0, 0)
+kind_of (event.Resume actor start) (answer.Gives reply) = (0, 1, 0, 0, 1, 0)
+kind_of (event.Resume actor start) (answer.Refuses errno) = (0, 1, 0, 0, 0, 1)
+kind_of (event.Resume actor start) other = (0, 1, 0, 0, 0, 0)
+kind_of event.Device other = (0, 0, 1, 0, 0, 0)
+kind_of event.Idle other = (0, 0, 0, 1, 0, 0)
+
+abbrev pub kinds_in : List Entry → ℕ × ℕ × ℕ × ℕ × ℕ × ℕ
+kinds_in [] = (0, 0, 0, 0, 0, 0)
+kinds_in (entry ∷ entries) =
+    let one : ℕ × ℕ × ℕ × ℕ × ℕ × ℕ = kind_of entry.event entry.answer in
+    let more : ℕ × ℕ × ℕ × ℕ × ℕ × ℕ = kinds_in entries in
+    (one.0 + more.0, one.1 + more.1, one.2 + more.2, one.3 + more.3, one.4 + more.4, one.5 + more.5)
+
+pub record Counted : Type 0 where
+  pub counts : List (ℕ × ℕ)
+  pub facts : EndFacts
+
+pub record Summed : Type 0 where
+  pub kinds : ℕ × ℕ × ℕ × ℕ × ℕ × ℕ
+  pub facts : EndFacts
+
+abbrev pub counted : SceneValue → Run → Counted
+counted scene run = record { counts = counts_from (opening scene) run.entries; facts = end_facts run.state }
+
+abbrev pub summed : SceneValue → Run → Summed
+summed scene run = record { kinds = kinds_in run.entries; facts = end_facts run.state }
+
+-- the run of a replay that is whole
+abbrev pub run_in : Run → Outturn → Run
+run_in other (ran run) = run
+run_in other (refused k) = other
 """
 
 LEMMAS = """
@@ -416,20 +465,60 @@ def told_term(report):
     return "record { entries = (%s); facts = %s }" % (entries, report.end)
 
 
+def end_of(output):
+    words = output.rstrip("\n").split("\n")[-1].split()
+    return record_term([("clock", words[2]), ("objects", words[4]), ("names", words[6])])
+
+
+def counted_term(output):
+    lines = [line.split() for line in output.split("\n")[1:-2]]
+    pairs = listed("(%s, %s)" % (words[2], words[4]) for words in lines)
+    return "record { counts = %s; facts = %s }" % (pairs, end_of(output))
+
+
+def summed_term(output):
+    lines = [line.split() for line in output.split("\n")]
+    kinds = lines[0][4::2] + lines[1][2::2]
+    return "record { kinds = (%s); facts = %s }" % (", ".join(kinds), end_of(output))
+
+
+def form_of(words):
+    """The form that these words ask for."""
+    for place, word in enumerate(words):
+        if word.startswith("--form="):
+            return word[7:]
+        if word == "--form":
+            return words[place + 1]
+    return "history"
+
+
+def command_of(words):
+    rest = [w for w in words if w != "--" and not w.startswith("--form=")]
+    if "--form" in rest:
+        del rest[rest.index("--form"):rest.index("--form") + 2]
+    return rest
+
+
 def wanted_terms(case, scene):
     """What is computed of a case's scene, and what it is to be."""
+    is_replay = "replay" in case["words"]
     if case["status"] == 7:
         return "replayed (%s scene)" % REPLAY, "Stopped %d" % int(case["output"].split()[1])
+    run = "(run_in (opening_run scene) (%s scene))" % REPLAY if is_replay else "(%s scene)" % SERIAL
+    if form_of(case["words"]) == "counts":
+        return "counted scene %s" % run, counted_term(case["output"])
+    if form_of(case["words"]) == "summary":
+        return "summed scene %s" % run, summed_term(case["output"])
     told = told_term(Report(scene.actors(), case["output"]))
-    if "replay" in case["words"]:
+    if is_replay:
         return "replayed (%s scene)" % REPLAY, "Whole (%s)" % told
-    return "told (%s scene)" % SERIAL, told
+    return "told %s" % run, told
 
 
 def case_file(crate, case):
     scene = Scene(case["scene"])
     head = "-- %s\n" % case["name"].replace("\n", " ") + uses(IMPORTS + DEFINITIONS + UNFOLDING_IMPORTS)
-    head += "use Rattle.%s.specs.Shown.{Shown, Told, told, Replayed, replayed}\n" % crate
+    head += "use Rattle.%s.specs.Shown.{Shown, Told, told, Replayed, replayed, counted, summed, run_in}\n" % crate
     head += "use Rattle.%s.specs.Shown.Shown.{Called, Resumed, Moved, Idled}\n" % crate
     head += "use Rattle.%s.specs.Shown.Replayed.{Whole, Stopped}\n" % crate
     found, wanted = wanted_terms(case, scene)
@@ -439,20 +528,20 @@ def case_file(crate, case):
 
 
 def is_wanted(case):
-    """Whether the case prints a history, or refuses a turn, of a scene without clients."""
-    first_words = {line.split()[0] for line in case["scene"].split("\n") if line.split()}
-    words = [w for w in case["words"] if w != "--"]
-    if "--form" in words and "history" in words:
-        words = [w for w in words if w not in ("--form", "history")]
-    words = [w for w in words if w != "--form=history"]
-    return "client" not in first_words and (words, case["status"]) in ((["serial"], 0), (["replay"], 0), (["replay"], 7))
+    """Whether the case prints a run in one of three forms, or refuses a turn, of a scene without clients."""
+    if "client" in {line.split()[0] for line in case["scene"].split("\n") if line.split()}:
+        return False
+    command = command_of(case["words"])
+    if (command, case["status"]) == (["replay"], 7):
+        return True
+    return command in (["serial"], ["replay"]) and case["status"] == 0 and form_of(case["words"]) != "actors"
 
 
 def wanted_cases(arguments):
     cases = [c for path in arguments.cases for c in json.load(open(path)) if is_wanted(c)]
     seen, distinct = set(), []
     for case in sorted(cases, key=lambda c: (len(c["output"]), len(c["scene"]))):
-        key = (case["scene"], "replay" in case["words"])
+        key = (case["scene"], "replay" in case["words"], case["status"] or form_of(case["words"]))
         if key not in seen:
             seen.add(key)
             distinct.append(case)
