@@ -1,6 +1,5 @@
 -- A walk along a chain: what stands before the k-th descriptor, and what the walk answers there.
-use Rattle.std.proofs.Common.{◌≡◌, ◌≢◌, ℕ, zero, suc, ◌+◌, ◌-◌, ◌^◌, ◌<◌, ◌≤◌, Bool, true, false, not, cond, ◌||◌, List, [], ◌∷◌, ◌++◌, length, get_or, map, Option, Some, None, Result, Ok, Err, refl, sym, ap, ◌∙◌, arith}
-use Rattle.std.specs.Option.{is_some}
+use Rattle.std.proofs.Common.{◌≡◌, ℕ, suc, ◌+◌, ◌-◌, ◌<◌, Bool, true, false, List, [], ◌∷◌, ◌++◌, length, map, Some, None, Ok, Err, refl, sym, ap, ◌∙◌, arith}
 use Rattle.std.specs.List.{All, position_or_len, range_with_len}
 use Rattle.std.proofs.lemmas.List.Elements.{All-push}
 use Rattle.std.proofs.lemmas.List.FromFn.{map-range_with_len_more, length-map-range_with_len}
@@ -101,5 +100,6 @@ walked_more memory q head k place parts w e h lt next-lt within =
   where
     step : (k : ℕ) → (descriptor_at memory q.index (place_of memory q.index head k)).next ≡ place_of memory q.index head (k + 1)
     step k = let s : k + 1 ≡ suc k = omega arith in rw s refl
+
     next_is : (descriptor_at memory q.index place).next ≡ place_of memory q.index head (k + 1)
     next_is = ap (λ (p : ℕ). (descriptor_at memory q.index p).next) w.place_is ∙ step k

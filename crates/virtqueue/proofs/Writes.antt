@@ -1,7 +1,7 @@
 -- A write to a part of the memory, as `written_at` says it.
-use Rattle.std.proofs.Common.{◌≡◌, ℕ, ◌+◌, ◌-◌, ◌≤◌, List, [], ◌∷◌, ◌++◌, length, take, drop, refl, sym, ap, ◌∙◌, arith}
-use Rattle.std.proofs.lemmas.List.{drop-drop, length-take, length-drop, append-nil, drop_all}
-use borrow.Rule.Slice.PartMut.{put_mid, mid_of, post_of}
+use Rattle.std.proofs.Common.{◌≡◌, ℕ, ◌+◌, ◌≤◌, List, ◌++◌, length, drop, refl, ap, ◌∙◌, arith}
+use Rattle.std.proofs.lemmas.List.{drop-drop, length-take, append-nil, drop_all}
+use borrow.Rule.Slice.PartMut.{put_mid, mid_of}
 use Rattle.virtqueue.specs.Layout.{written_at}
 
 pub put_there : (at k : ℕ) (xs ys bytes : List ℕ) → ys ≡ bytes → k ≡ length bytes → put_mid at k xs ys ≡ written_at at bytes xs

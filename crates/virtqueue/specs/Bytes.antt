@@ -1,6 +1,6 @@
 -- The bytes of a chain: a list of addresses, in order.
-use Rattle.std.specs.Prelude.{ℕ, ◌+◌, ◌^◌, ◌≤◌, List, length, map, slice_index, slice_set}
-use Rattle.std.specs.List.{All, flat_map, fold, range_with_len, zip}
+use Rattle.std.specs.Prelude.{ℕ, ◌+◌, ◌^◌, ◌≤◌, List, map, slice_index, slice_set}
+use Rattle.std.specs.List.{flat_map, fold, range_with_len, sum_by, zip}
 use Rattle.virtqueue.specs.declared.parts.Part.{Part}
 
 -- a part ends within the memory of 2 ^ 20 bytes
@@ -13,7 +13,7 @@ addresses parts = flat_map (λ part. range_with_len part.addr part.len) parts
 
 -- how many bytes the parts hold
 unfoldable pub room : List Part → ℕ
-room parts = length (addresses parts)
+room parts = sum_by (λ part. part.len) parts
 
 -- the bytes that stand at the addresses
 unfoldable pub bytes_at : List Part → List ℕ → List ℕ

@@ -1,14 +1,13 @@
 -- Where the rings of the two queues stand (VIRTIO 1.2, 2.7), and the numbers there, all little endian.
-use Rattle.std.specs.Prelude.{◌≡◌, ℕ, ◌+◌, ◌*◌, ◌-◌, ◌%◌, ◌^◌, ◌<◌, ◌≤◌, List, ◌++◌, length, take, drop}
+use Rattle.std.specs.Prelude.{ℕ, ◌+◌, ◌*◌, ◌-◌, ◌%◌, ◌<◌, ◌≤◌, List, ◌++◌, length, take, drop}
 use Rattle.byteorder.specs.Endian.{little_number, little_bytes}
 use Rattle.virtqueue.specs.declared.queue.Queue.{Queue}
 
--- queue 0 or 1, and a size that is a power of two from 1 to 256
+-- queue 0 or 1, with 1 to 256 places; the standard asks for a power of two, and no rule here needs it
 pub record IsQueue (q : Queue) : Type 0 where
   pub index : q.index < 2
   pub low : 1 ≤ q.n
   pub high : q.n ≤ 256
-  pub power : (k : ℕ) × (q.n ≡ 2 ^ k)
 
 -- the descriptors of 16 bytes, one after the other (2.7.5)
 abbrev pub descriptor_start : ℕ → ℕ → ℕ

@@ -6,13 +6,16 @@
 #![tactic(auto)]
 
 mod chain;
+mod layout;
 mod memory;
 mod parts;
 mod queue;
 mod rings;
+#[cfg(test)]
+mod tests;
 mod walk;
 
-pub use crate::chain::Chain;
+pub use crate::chain::{Chain, chain_len, read_chain, write_chain};
 pub use crate::parts::{Part, PartList};
 pub use crate::queue::{MEMORY_SIZE, Queue, RingFault};
 pub use crate::rings::{publish, push_used};

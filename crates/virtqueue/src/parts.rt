@@ -1,4 +1,4 @@
-ghost use Rattle.std.specs.Prelude.{◌≡◌, ◌<◌, List, [], ◌∷◌, ◌++◌, length, take};
+ghost use Rattle.std.specs.Prelude.{◌≡◌, ◌<◌, ◌≤◌, List, [], ◌∷◌, ◌++◌, length, take};
 
 use std::marker::Model;
 
@@ -53,7 +53,8 @@ impl PartList {
 
     /// The parts.
     pub fn as_slice(&self) -> &[Part]
-        ensures { result.now ≡ self.now }
+        ensures parts { result.now ≡ self.now }
+        ensures few { length result.now ≤ 256 }
     {
         &self.parts[..self.len]
     }

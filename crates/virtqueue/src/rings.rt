@@ -1,27 +1,9 @@
 ghost use Rattle.std.specs.Prelude.{◌≡◌, ◌<◌, length};
-ghost use Rattle.virtqueue.specs.Layout.{IsQueue, available_idx, available_head, available_idx_start, available_place, used_idx_start, used_place, next_index, used_pushed, published};
+ghost use Rattle.virtqueue.specs.Layout.{IsQueue, available_idx, available_head, next_index, used_pushed, published};
 
+use crate::layout::{available_idx_place, available_place, used_idx_place, used_place};
 use crate::memory::{read_u16, write_u16, write_u32};
 use crate::queue::{MEMORY_SIZE, Queue};
-
-/// The distance between the two queues' rings.
-const QUEUE_BYTES: usize = 0x3000;
-const AVAILABLE: usize = 0x1000;
-const USED: usize = 0x2000;
-
-fn available_place(q: &Queue, i: u16) -> usize
-    requires { IsQueue q.now }
-    ensures { result ≡ available_place q.now i }
-{
-    q.index as usize * QUEUE_BYTES + AVAILABLE + 4 + 2 * (i as usize % q.n as usize)
-}
-
-fn used_place(q: &Queue, i: u16) -> usize
-    requires { IsQueue q.now }
-    ensures { result ≡ used_place q.now i }
-{
-    q.index as usize * QUEUE_BYTES + USED + 4 + 8 * (i as usize % q.n as usize)
-}
 
 /// The index of the available ring, as it stands in memory.
 #[tactic(auto, unfolding(crate::specs::Layout::available_idx))]
@@ -30,7 +12,7 @@ pub fn available_idx(mem: &[u8], q: &Queue) -> u16
     requires queue { IsQueue q.now }
     ensures { result ≡ available_idx mem.now q.now.index }
 {
-    read_u16(mem, q.index as usize * QUEUE_BYTES + AVAILABLE + 2)
+    read_u16(mem, available_idx_place(q))
 }
 
 /// The head at an index of the available ring.
@@ -58,7 +40,7 @@ pub fn push_used(mem: &mut [u8], q: &mut Queue, head: u16, len: u32)
     write_u32(mem, at + 4, len);
     q.position = q.position.wrapping_add(1);
     q.used = q.used.wrapping_add(1);
-    write_u16(mem, q.index as usize * QUEUE_BYTES + USED + 2, q.used);
+    write_u16(mem, used_idx_place(q), q.used);
 }
 
 /// Puts a head into the available ring behind the index that stands in memory.
@@ -70,5 +52,5 @@ pub fn publish(mem: &mut [u8], q: &Queue, head: u16)
 {
     let i = available_idx(mem, q);
     write_u16(mem, available_place(q, i), head);
-    write_u16(mem, q.index as usize * QUEUE_BYTES + AVAILABLE + 2, i.wrapping_add(1));
+    write_u16(mem, available_idx_place(q), i.wrapping_add(1));
 }

@@ -1,10 +1,11 @@
-ghost use Rattle.std.specs.Prelude.{◌≡◌, ◌≢◌, ◌+◌, ◌<◌, ◌≤◌, ◌^◌, IsTrue, IfNone, IfSome, IfOk, length, true};
+ghost use Rattle.std.specs.Prelude.{◌≡◌, ◌≢◌, ◌+◌, ◌<◌, ◌≤◌, ◌^◌, IfNone, IfSome, IfOk, length, true};
 ghost use Rattle.std.specs.List.{All};
 ghost use Rattle.virtqueue.specs.Layout.{IsQueue};
 ghost use Rattle.virtqueue.specs.Bytes.{IsWithin};
 ghost use Rattle.virtqueue.specs.Chains.{descriptor_at, has_next, is_writable, is_inside, is_directed, broken, part_of, parts_from, chain};
 
 use crate::chain::Chain;
+use crate::layout::descriptor_place;
 use crate::memory::{read_u16, read_u32, read_u64};
 use crate::parts::{Part, PartList};
 use crate::queue::{MEMORY_SIZE, Queue, RingFault};
@@ -15,7 +16,7 @@ const NEXT: u16 = 1;
 /// The device writes the buffer.
 const WRITE: u16 = 2;
 
-/// A descriptor, as it stands in the table.
+/// A descriptor, as it stands in the table (VIRTIO 1.2, section 2.7.5).
 #[derive(Clone, Copy, Debug, PartialEq, Eq)]
 pub struct Descriptor {
     /// The place of the buffer's first byte.
@@ -29,8 +30,6 @@ pub struct Descriptor {
 }
 
 impl Descriptor {
-
-
     #[tactic(auto, unfolding(crate::specs::Chains::descriptor_at))]
     fn read(mem: &[u8], q: &Queue, place: u16) -> Descriptor
         requires memory { length mem.now ≡ MEMORY_SIZE }
@@ -38,7 +37,7 @@ impl Descriptor {
         requires place { place < q.now.n }
         ensures { result ≡ descriptor_at mem.now q.now.index place }
     {
-        let at = q.index as usize * 0x3000 + 16 * place as usize;
+        let at = descriptor_place(q, place);
         Descriptor {
             addr: read_u64(mem, at),
             len: read_u32(mem, at + 8),
@@ -63,13 +62,18 @@ impl Descriptor {
         ensures { result ≡ is_inside self.now }
     {
         let len = self.len as u64;
-        self.addr <= 0x10_0000 && len <= 0x10_0000 - self.addr
+        let size = MEMORY_SIZE as u64;
+        self.addr <= size && len <= size - self.addr
     }
 
     fn is_directed(&self, index: u32) -> bool
         ensures { result ≡ is_directed index self.now }
     {
-        if index == 0 { self.is_writable() } else { !self.is_writable() }
+        if index == 0 {
+            self.is_writable()
+        } else {
+            !self.is_writable()
+        }
     }
 
     /// The first rule that it breaks, as the descriptor with this number in its chain, from 1.
