@@ -1,5 +1,6 @@
 -- A frame that is read is spelled by its bytes, and what is spelled is read again.
 use Rattle.std.proofs.Common.{◌≡◌, ℕ, ◌+◌, ◌^◌, ◌<◌, ◌≤◌, true, false, cond, eqb, ltb, List, ◌++◌, length, drop, Result, Ok, Err, refl, sym, ap, ◌∙◌, subst, arith}
+use Rattle.std.specs.Prelude.{IfOk}
 use Rattle.std.proofs.lemmas.Bool.{eqb-true, ltb-false, le-ltb, eq-eqb}
 use Rattle.std.proofs.lemmas.List.{length-append, length-drop}
 use Rattle.byteorder.specs.Endian.{little_bytes, little_number}
@@ -65,3 +66,7 @@ frame_again bytes f payload h =
     let enough : ltb (length (header f ++ payload)) 16 ≡ false = le-ltb (length (header f ++ payload)) 16 (omega arith) in
     let whole : eqb (length (header f ++ payload)) (16 + little_number 2 (drop 12 (header f ++ payload))) ≡ true = eq-eqb _ _ (long ∙ ap (λ (n : ℕ). 16 + n) (sym len)) in
     ap frame_in h.spelled ∙ rw (enough, whole, fields) refl
+
+pub frame_found : (bytes : List ℕ) (r : Result Frame FrameFault) → IsBytes bytes → r ≡ frame_in bytes → IfOk r (λ f. IsFrame bytes f (drop 16 bytes))
+frame_found bytes (Ok f) fits e = frame_takes bytes f fits (sym e)
+frame_found bytes (Err fault) fits e = tt

@@ -15,13 +15,17 @@ use Rattle.tipc_proto.proofs.Cases.{passed, same_value}
 
 -- ---- what stands in front
 
-front_passes : (p : ℕ → Bool) (xs : List ℕ) → list_all p (take (prefix_len p xs) xs) ≡ true
-front_passes p [] = refl
-front_passes p (x ∷ xs) = by (p x) refl (front_passes p xs)
+pub some_pass : (p : ℕ → Bool) (xs : List ℕ) (n : ℕ) → n ≤ prefix_len p xs → list_all p (take n xs) ≡ true
+some_pass p xs zero le = refl
+some_pass p [] (suc n) le = absurd (omega arith)
+some_pass p (x ∷ xs) (suc n) le = by (p x) refl le (some_pass p xs n)
   where
-    by : (b : Bool) → p x ≡ b → list_all p (take (prefix_len p xs) xs) ≡ true → list_all p (take (cond b (1 + prefix_len p xs) 0) (x ∷ xs)) ≡ true
-    by true e rest = let one : 1 + prefix_len p xs ≡ suc (prefix_len p xs) = omega arith in rw one (and_from (p x) (list_all p (take (prefix_len p xs) xs)) e rest)
-    by false e rest = refl
+    by : (b : Bool) → p x ≡ b → suc n ≤ cond b (1 + prefix_len p xs) 0 → (n ≤ prefix_len p xs → list_all p (take n xs) ≡ true) → (p x && list_all p (take n xs)) ≡ true
+    by true e le rest = and_from (p x) (list_all p (take n xs)) e (rest (omega arith))
+    by false e le rest = absurd (omega arith)
+
+front_passes : (p : ℕ → Bool) (xs : List ℕ) → list_all p (take (prefix_len p xs) xs) ≡ true
+front_passes p xs = some_pass p xs (prefix_len p xs) (omega arith)
 
 all_pass_len : (p : ℕ → Bool) (xs : List ℕ) → list_all p xs ≡ true → prefix_len p xs ≡ length xs
 all_pass_len p [] e = refl
@@ -78,8 +82,9 @@ name_takes field path full e =
     let rest_long : length rest ≡ 256 - long = omega (arith, length-drop long field) in
     let rest_is : rest ≡ replicate (length rest) 0 = zeros_only rest (omega (arith, prefix_len-le-length is_zero rest)) in
     let lawful : is_path (take long field) ≡ true = front_is_path field some few in
+    let zeros : rest ≡ replicate (256 - length (take long field)) 0 = rest_is ∙ ap (λ (n : ℕ). replicate n 0) (rest_long ∙ ap (λ (n : ℕ). 256 - n) (sym path_long)) in
     (sym (take-append-drop long field)
-    ∙ ap (λ (ys : List ℕ). take long field ++ ys) (rest_is ∙ ap (λ (n : ℕ). replicate n 0) (rest_long ∙ ap (λ (n : ℕ). 256 - n) (sym path_long)))
+    ∙ ap (λ (ys : List ℕ). take long field ++ ys) zeros
     ∙ ap (λ (p : List ℕ). p ++ replicate (256 - length p) 0) path_is,
     ap is_path (sym path_is) ∙ lawful)
   where

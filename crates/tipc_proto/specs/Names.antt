@@ -10,9 +10,17 @@ use Rattle.tipc_proto.specs.declared.faults.FrameFault.TheVariants.{Name}
 unfoldable pub name_field : List ℕ → List ℕ
 name_field path = path ++ replicate (256 - length path) 0
 
--- some path's field begins so
-abbrev pub GoesOn : List ℕ → Type 0
-GoesOn front = (path : List ℕ) × IsTrue (is_path path) × (rest : List ℕ) × (front ++ rest ≡ name_field path)
+-- the field of some path begins so
+pub record GoesOn (front : List ℕ) : Type 0 where
+  pub path : List ℕ
+  pub lawful : IsTrue (is_path path)
+  pub rest : List ℕ
+  pub begins : front ++ rest ≡ name_field path
+
+-- the first place at which no path goes on
+pub record BreaksAt (field : List ℕ) (place : ℕ) : Type 0 where
+  pub before : GoesOn (take place field)
+  pub here : GoesOn (take (place + 1) field) → ⊥
 
 abbrev pub is_zero : ℕ → Bool
 is_zero byte = byte == 0

@@ -1,4 +1,9 @@
-ghost use Rattle.std.specs.Prelude.{◌≡◌, ℕ, List, length, drop, Ok, Some, IfOk, OnOk, ◌++◌, ◌<◌, ◌+◌, ◌≤◌};
+ghost use Rattle.std.specs.Prelude.{◌≡◌, ℕ, List, length, drop, Some, IfOk, ◌++◌, ◌+◌, ◌≤◌};
+ghost use Rattle.byteorder.specs.Endian.{little_bytes};
+ghost use Rattle.tipc_proto.specs.declared.controls.Control.{Control};
+ghost use Rattle.tipc_proto.specs.declared.controls.Control.TheVariants.{ConnReq, ConnRsp, DiscReq};
+ghost use Rattle.tipc_proto.specs.declared.faults.FrameFault.TheVariants.{Name};
+ghost use Rattle.tipc_proto.specs.Names.{BreaksAt};
 ghost use Rattle.tipc_proto.specs.Controls.{IsControl, control_in, body_in, body_length, four_at};
 
 use byteorder::{ByteOrder, LittleEndian};
@@ -8,7 +13,7 @@ use std::alloc::Global;
 use crate::faults::FrameFault;
 use crate::names::name_of;
 use crate::path::PathName;
-use crate::writing::{append, append_u32};
+use crate::writing::{append, append_u32, append_zeros};
 
 /// A message from one side of the bridge to the other. Each type has a number, in this order from 1.
 #[derive(Debug, Drop)]
@@ -40,6 +45,79 @@ pub enum Control {
         /// Its address on the receiver's side.
         target: u32,
     },
+}
+
+/// The control message that a frame's payload spells, or the first fault.
+pub fn control_of(payload: &[u8]) -> Result<Control, FrameFault>
+    ensures exact { result ≡ control_in payload.now }
+    ensures found { IfOk result (λ c. IsControl payload.now c) }
+    ensures only { (c : Control) → IsControl payload.now c → result ≡ Ok c }
+    ensures place { (i : ℕ) → result ≡ Err (Name i) → BreaksAt (drop 8 payload.now) i }
+{
+    read_control(payload)
+}
+
+/// The one spelling of a control message, the payload of a frame.
+#[tactic(auto, unfolding(crate::specs::Controls::message))]
+pub fn write_control(alloc: Global, control: &Control) -> Result<Bytes, NoMemory>
+    ensures { IfOk result (λ bytes. IsControl bytes control.now) }
+{
+    match control {
+        Control::GoOnline => write_head(alloc, 1, 0),
+        Control::GoOffline => write_head(alloc, 2, 0),
+        Control::ConnReq { path } => write_request(alloc, path),
+        Control::ConnRsp {
+            target,
+            status,
+            remote,
+            size,
+            count,
+        } => write_answer(alloc, *target, *status, *remote, *size, *count),
+        Control::DiscReq { target } => write_leave(alloc, *target),
+    }
+}
+
+/// The type of a message, and the length of its body.
+fn write_head(alloc: Global, kind: u32, body_len: u32) -> Result<Bytes, NoMemory>
+    ensures { IfOk result (λ bytes. bytes ≡ little_bytes 4 kind ++ little_bytes 4 body_len) }
+{
+    let mut out = Bytes::new(alloc);
+    append_u32(&mut out, kind)?;
+    append_u32(&mut out, body_len)?;
+    Ok(out)
+}
+
+#[tactic(auto, unfolding(crate::specs::Controls::message, crate::specs::Names::name_field))]
+fn write_request(alloc: Global, path: &PathName) -> Result<Bytes, NoMemory>
+    ensures { IfOk result (λ bytes. IsControl bytes (ConnReq path.now)) }
+{
+    let mut out = write_head(alloc, 3, 256)?;
+    let name = path.as_slice();
+    append(&mut out, name)?;
+    append_zeros(&mut out, 256 - name.len())?;
+    Ok(out)
+}
+
+#[tactic(auto, unfolding(crate::specs::Controls::message, crate::specs::Controls::answer_body))]
+fn write_answer(alloc: Global, target: u32, status: u32, remote: u32, size: u32, count: u32) -> Result<Bytes, NoMemory>
+    ensures { IfOk result (λ bytes. IsControl bytes (ConnRsp target status remote size count)) }
+{
+    let mut out = write_head(alloc, 4, 20)?;
+    append_u32(&mut out, target)?;
+    append_u32(&mut out, status)?;
+    append_u32(&mut out, remote)?;
+    append_u32(&mut out, size)?;
+    append_u32(&mut out, count)?;
+    Ok(out)
+}
+
+#[tactic(auto, unfolding(crate::specs::Controls::message, crate::specs::Controls::leave_body))]
+fn write_leave(alloc: Global, target: u32) -> Result<Bytes, NoMemory>
+    ensures { IfOk result (λ bytes. IsControl bytes (DiscReq target)) }
+{
+    let mut out = write_head(alloc, 5, 4)?;
+    append_u32(&mut out, target)?;
+    Ok(out)
 }
 
 fn four_at(bytes: &[u8], at: usize) -> u32

@@ -11,7 +11,7 @@ mod names;
 mod path;
 mod writing;
 
-pub use crate::controls::Control;
+pub use crate::controls::{Control, control_of, write_control};
 pub use crate::faults::FrameFault;
-pub use crate::frames::Frame;
+pub use crate::frames::{Frame, frame_of, write_frame};
 pub use crate::path::PathName;

@@ -1,4 +1,5 @@
 ghost use Rattle.std.specs.Prelude.{◌≡◌, ◌++◌, OnOk};
+ghost use Rattle.std.proofs.Math.ListN.{replicate};
 ghost use Rattle.byteorder.specs.Endian.{little_bytes};
 
 use byteorder::{ByteOrder, LittleEndian};
@@ -10,6 +11,16 @@ pub fn append(out: &mut Bytes, bytes: &[u8]) -> Result<(), NoMemory>
 {
     for byte in bytes {
         out.push(*byte)?;
+    }
+    Ok(())
+}
+
+/// Appends zeros.
+pub fn append_zeros(out: &mut Bytes, count: usize) -> Result<(), NoMemory>
+    ensures { OnOk result (out.new ≡ out.old ++ replicate count 0) }
+{
+    for _zero in 0..count {
+        out.push(0)?;
     }
     Ok(())
 }
