@@ -205,7 +205,7 @@ body_breaks kind body place l e =
     let second = not_here (eqb kind 2) GoOffline third place first.1 in
     elim (chosen (eqb kind 3) (request (name_in body)) fourth (Err (Name place)) second.1) [
       | inl h ↦ let three : kind ≡ 3 = eqb-true kind 3 h.0 in
-        asked_breaks body place (name_in body) (sym (same_length 256 (length body) (ap body_length (sym three) ∙ l))) refl h.1
+          asked_breaks body place (name_in body) (sym (same_length 256 (length body) (ap body_length (sym three) ∙ l))) refl h.1
       | inr h ↦ let other = not_here (eqb kind 4) answer (Ok (DiscReq (four_at 0 body))) place h in absurd cc
     ]
 

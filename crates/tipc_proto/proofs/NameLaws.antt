@@ -82,11 +82,12 @@ name_takes field path full e =
     let rest_long : length rest ≡ 256 - long = omega (arith, length-drop long field) in
     let rest_is : rest ≡ replicate (length rest) 0 = zeros_only rest (omega (arith, prefix_len-le-length is_zero rest)) in
     let lawful : is_path (take long field) ≡ true = front_is_path field some few in
-    let zeros : rest ≡ replicate (256 - length (take long field)) 0 = rest_is ∙ ap (λ (n : ℕ). replicate n 0) (rest_long ∙ ap (λ (n : ℕ). 256 - n) (sym path_long)) in
-    (sym (take-append-drop long field)
-    ∙ ap (λ (ys : List ℕ). take long field ++ ys) zeros
-    ∙ ap (λ (p : List ℕ). p ++ replicate (256 - length p) 0) path_is,
-    ap is_path (sym path_is) ∙ lawful)
+    let zeros : rest ≡ replicate (256 - length (take long field)) 0 = rest_is ∙ ap (λ (n : ℕ). replicate n 0) (rest_long ∙ ap (λ (n : ℕ). 256 - n) (sym path_long)) in (
+      sym (take-append-drop long field)
+          ∙ ap (λ (ys : List ℕ). take long field ++ ys) zeros
+          ∙ ap (λ (p : List ℕ). p ++ replicate (256 - length p) 0) path_is,
+      ap is_path (sym path_is) ∙ lawful,
+    )
   where
     positive : (n : ℕ) → eqb n 0 ≡ false → 0 < n
     positive zero e = absurd cc

@@ -42,13 +42,14 @@ zeros_go_on field full some few =
     let path_long : length path ≡ long = length-prefix_len is_printable field in
     let within : zeros ≤ 256 - long = omega (arith, prefix_len-le-length is_zero (drop long field), length-drop long field) in
     let all : zeros + (256 - (long + zeros)) ≡ 256 - length path = omega arith in
+    let more = 256 - (long + zeros) in
+    let front : take (long + zeros) field ≡ path ++ replicate zeros 0 = take-add long zeros field ∙ ap (λ (ys : List ℕ). path ++ ys) (zeros_front (drop long field)) in
+    let filled : replicate zeros 0 ++ replicate more 0 ≡ replicate (256 - length path) 0 = replicate-append-replicate zeros more 0 ∙ ap (λ (n : ℕ). replicate n 0) all in
     record {
       path = path;
       lawful = front_is_path field some few;
-      rest = replicate (256 - (long + zeros)) 0;
-      begins = ap (λ (ys : List ℕ). ys ++ replicate (256 - (long + zeros)) 0) (take-add long zeros field ∙ ap (λ (ys : List ℕ). path ++ ys) (zeros_front (drop long field)))
-      ∙ append_assoc path (replicate zeros 0) (replicate (256 - (long + zeros)) 0)
-      ∙ ap (λ (ys : List ℕ). path ++ ys) (replicate-append-replicate zeros (256 - (long + zeros)) 0 ∙ ap (λ (n : ℕ). replicate n 0) all);
+      rest = replicate more 0;
+      begins = ap (λ (ys : List ℕ). ys ++ replicate more 0) front ∙ append_assoc path (replicate zeros 0) (replicate more 0) ∙ ap (λ (ys : List ℕ). path ++ ys) filled;
     }
 
 -- ---- a field that can't begin so
@@ -70,9 +71,9 @@ zero_behind path k le = get_or-append_right path (replicate (256 - length path) 
   where
     zeros : (m j : ℕ) → get_or (replicate {A = ℕ} m 0) j 0 ≡ 0
     zeros m j = elim (cases_lt j m) [
-          | inl lt ↦ get_or-replicate m j 0 0 lt
-          | inr past ↦ get_or_past (replicate m 0) j 0 (omega (arith, length-replicate {A = ℕ} m 0))
-        ]
+      | inl lt ↦ get_or-replicate m j 0 0 lt
+      | inr past ↦ get_or_past (replicate m 0) j 0 (omega (arith, length-replicate {A = ℕ} m 0))
+    ]
 
 -- a byte that is not printable is no first one
 not_first : (field : List ℕ) → length field ≡ 256 → prefix_len is_printable field ≡ 0 → GoesOn (take 1 field) → ⊥
@@ -101,7 +102,7 @@ not_behind field end full end_is inside g =
     let no : is_printable (get_or field long 0) ≡ false = prefix_len_stops is_printable field 0 (omega arith) in
     elim (cases_lt end (length g.path)) [
       | inl lt ↦ let same = read_same field g.rest (name_field g.path) end long (omega arith) (omega arith) g.begins in
-        true≢false (sym (ap is_printable same ∙ printable_in g.path long g.lawful (omega arith)) ∙ no)
+          true≢false (sym (ap is_printable same ∙ printable_in g.path long g.lawful (omega arith)) ∙ no)
       | inr past ↦ eqb-false (get_or field end 0) 0 stop (read_same field g.rest (name_field g.path) end end (omega arith) (omega arith) g.begins ∙ zero_behind g.path end past)
     ]
 
@@ -126,16 +127,16 @@ name_breaks field place full e =
       | inl a ↦ subst (BreaksAt field) a.1 (record { before = nothing_goes_on; here = not_first field full (eqb-true long 0 a.0) })
       | inr a ↦ elim (either (ltb 63 long) 63 place third a.1) [
         | inl b ↦ let more : 63 < long = ltb-true 63 long b.0 in
-          subst (BreaksAt field) b.1 (record {
-            before = path_goes_on (take 63 field) (path_from (take 63 field) (omega (arith, length-take 63 field)) (omega (arith, length-take 63 field)) (some_pass is_printable field 63 (omega arith)));
-            here = not_longer field full more;
-          })
+            subst (BreaksAt field) b.1 (record {
+              before = path_goes_on (take 63 field) (path_from (take 63 field) (omega (arith, length-take 63 field)) (omega (arith, length-take 63 field)) (some_pass is_printable field 63 (omega arith)));
+              here = not_longer field full more;
+            })
         | inr b ↦ let c = last (ltb end (length field)) end place (take long field) b.1 in
-          let some : 0 < long = positive long a.0 in
-          subst (BreaksAt field) c.1 (record {
-            before = zeros_go_on field full some (ltb-false 63 long b.0);
-            here = not_behind field end full refl (omega (arith, ltb-true end (length field) c.0));
-          })
+            let some : 0 < long = positive long a.0 in
+            subst (BreaksAt field) c.1 (record {
+              before = zeros_go_on field full some (ltb-false 63 long b.0);
+              here = not_behind field end full refl (omega (arith, ltb-true end (length field) c.0));
+            })
       ]
     ]
   where

@@ -6,14 +6,13 @@ ghost use Rattle.tipc_proto.specs.declared.faults.FrameFault.TheVariants.{Name};
 ghost use Rattle.tipc_proto.specs.Names.{BreaksAt};
 ghost use Rattle.tipc_proto.specs.Controls.{IsControl, control_in, body_in, body_length, four_at};
 
-use byteorder::{ByteOrder, LittleEndian};
-use kernel_values::{Bytes, NoMemory};
-use std::alloc::Global;
-
 use crate::faults::FrameFault;
 use crate::names::name_of;
 use crate::path::PathName;
 use crate::writing::{append, append_u32, append_zeros};
+use byteorder::{ByteOrder, LittleEndian};
+use kernel_values::{Bytes, NoMemory};
+use std::alloc::Global;
 
 /// A message from one side of the bridge to the other. Each type has a number, in this order from 1.
 #[derive(Debug, Drop)]
@@ -99,7 +98,14 @@ fn write_request(alloc: Global, path: &PathName) -> Result<Bytes, NoMemory>
 }
 
 #[tactic(auto, unfolding(crate::specs::Controls::message, crate::specs::Controls::answer_body))]
-fn write_answer(alloc: Global, target: u32, status: u32, remote: u32, size: u32, count: u32) -> Result<Bytes, NoMemory>
+fn write_answer(
+    alloc: Global,
+    target: u32,
+    status: u32,
+    remote: u32,
+    size: u32,
+    count: u32,
+) -> Result<Bytes, NoMemory>
     ensures { IfOk result (λ bytes. IsControl bytes (ConnRsp target status remote size count)) }
 {
     let mut out = write_head(alloc, 4, 20)?;

@@ -2,12 +2,11 @@ ghost use Rattle.std.specs.Prelude.{◌≡◌, ℕ, List, length, drop, IfOk};
 ghost use Rattle.tipc_proto.specs.declared.frames.Frame.{Frame};
 ghost use Rattle.tipc_proto.specs.Frames.{IsFrame, frame_in};
 
+use crate::faults::FrameFault;
+use crate::writing::{append, append_u16, append_u32};
 use byteorder::{ByteOrder, LittleEndian};
 use kernel_values::{Bytes, NoMemory};
 use std::alloc::Global;
-
-use crate::faults::FrameFault;
-use crate::writing::{append, append_u16, append_u32};
 
 /// The header of a frame. Every value of each field is accepted.
 #[derive(Clone, Copy, Debug, PartialEq, Eq)]

@@ -9,6 +9,8 @@ mod faults;
 mod frames;
 mod names;
 mod path;
+#[cfg(test)]
+mod tests;
 mod writing;
 
 pub use crate::controls::{Control, control_of, write_control};
