@@ -1,5 +1,5 @@
 -- What a reader's tests say of its answer.
-use Rattle.std.proofs.Common.{◌≡◌, Bool, true, false, cond, Result, Ok, Err, Option, Some, None, refl}
+use Rattle.std.proofs.Common.{◌≡◌, Bool, true, false, cond, Result, Ok, Err, refl}
 use Rattle.tipc_proto.specs.declared.faults.FrameFault.{FrameFault}
 
 -- a test that found no fault

@@ -1,15 +1,15 @@
 -- A control message that is read is spelled by its payload, and what is spelled is read again.
-use Rattle.std.proofs.Common.{◌≡◌, ℕ, ◌+◌, ◌^◌, ◌<◌, ◌≤◌, Bool, true, false, cond, eqb, ltb, ◌&&◌, List, [], ◌∷◌, ◌++◌, length, drop, Option, Some, None, Result, Ok, Err, refl, sym, ap, ◌∙◌, subst, ◌⊎◌, inl, inr, arith, lit<}
-use Rattle.std.specs.Prelude.{IsTrue, IfOk}
-use Rattle.std.proofs.lemmas.Bool.{and_parts, and_from, eqb-true, ltb-false, le-ltb, eq-eqb, ne_eqb, cases_eq}
-use Rattle.std.proofs.lemmas.List.{length-append, length-drop, nil_from_length, append-nil}
-use Rattle.byteorder.specs.Endian.{little_bytes, little_number}
+use Rattle.std.proofs.Common.{◌≡◌, ℕ, ◌^◌, ◌<◌, ◌≤◌, Bool, true, false, cond, eqb, ltb, ◌&&◌, List, [], ◌++◌, length, drop, Option, Some, None, Result, Ok, Err, refl, sym, ap, ◌∙◌, subst, ◌⊎◌, inl, inr, arith, lit<}
+use Rattle.std.specs.Prelude.{IfOk}
+use Rattle.std.proofs.lemmas.Bool.{and_parts, eqb-true, ltb-false, le-ltb, eq-eqb, ne_eqb, cases_eq}
+use Rattle.std.proofs.lemmas.List.{length-drop, nil_from_length}
+use Rattle.byteorder.specs.Endian.{little_bytes}
 use Rattle.byteorder.specs.Numbers.{little_number-reads_back}
 use Rattle.kernel_values.specs.Words.{is_path}
 use Rattle.tipc_proto.specs.declared.controls.Control.{Control}
 use Rattle.tipc_proto.specs.declared.controls.Control.TheVariants.{GoOnline, GoOffline, ConnReq, ConnRsp, DiscReq}
 use Rattle.tipc_proto.specs.declared.faults.FrameFault.{FrameFault}
-use Rattle.tipc_proto.specs.declared.faults.FrameFault.TheVariants.{Short, BodyLength, UnknownType, Name}
+use Rattle.tipc_proto.specs.declared.faults.FrameFault.TheVariants.{Short, BodyLength, Name}
 use Rattle.tipc_proto.specs.Names.{name_field, BreaksAt, name_in}
 use Rattle.tipc_proto.specs.Controls.{four_at, message, answer_body, leave_body, IsControl, body_length, request, body_in, sized, control_in}
 use Rattle.tipc_proto.proofs.Cases.{passed, held, same_value}

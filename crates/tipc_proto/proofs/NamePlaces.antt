@@ -1,11 +1,10 @@
 -- The place at which a name is broken is the first at which no path goes on.
-use Rattle.std.proofs.Common.{◌≡◌, ℕ, zero, suc, ◌+◌, ◌-◌, ◌<◌, ◌≤◌, Bool, true, false, cond, eqb, ltb, List, [], ◌∷◌, ◌++◌, length, get_or, take, drop, Result, Ok, Err, ◌⊎◌, inl, inr, refl, sym, ap, subst, ◌∙◌, append_assoc, min, arith}
-use Rattle.std.specs.Prelude.{IsTrue}
-use Rattle.std.specs.List.{prefix_len, list_all}
+use Rattle.std.proofs.Common.{◌≡◌, ℕ, zero, suc, ◌+◌, ◌-◌, ◌<◌, ◌≤◌, Bool, true, false, cond, eqb, ltb, List, [], ◌∷◌, ◌++◌, length, get_or, take, drop, Result, Ok, Err, ◌⊎◌, inl, inr, refl, sym, ap, subst, ◌∙◌, append_assoc, arith}
+use Rattle.std.specs.List.{prefix_len}
 use Rattle.std.proofs.Math.ListN.{replicate}
 use Rattle.std.proofs.Math.Seq.{take-add}
 use Rattle.std.proofs.lemmas.Bool.{eqb-true, eqb-false, ltb-true, ltb-false, cases_lt, true≢false, false≢true}
-use Rattle.std.proofs.lemmas.List.{length-append, length-replicate, length-take, length-drop, get_or-take, get_or-drop, get_or_append_left, get_or-append_right, get_or-replicate, get_or_past, replicate-append-replicate}
+use Rattle.std.proofs.lemmas.List.{length-replicate, length-take, length-drop, get_or-take, get_or-drop, get_or_append_left, get_or-append_right, get_or-replicate, get_or_past, replicate-append-replicate}
 use Rattle.std.proofs.lemmas.List.Folds.{length-prefix_len}
 use Rattle.std.proofs.lemmas.List.Sums.{prefix_len_passes, prefix_len_stops, prefix_len-le-length, AllPass-from_list_all}
 use Rattle.kernel_values.specs.Words.{is_path, is_printable}
@@ -32,6 +31,9 @@ path_goes_on : (path : List ℕ) → is_path path ≡ true → GoesOn path
 unfolding name_field
 path_goes_on path e = record { path = path; lawful = e; rest = replicate (256 - length path) 0; begins = refl }
 
+joined : (front path zeros more whole : List ℕ) → front ≡ path ++ zeros → zeros ++ more ≡ whole → front ++ more ≡ path ++ whole
+joined front path zeros more whole e f = ap (λ (xs : List ℕ). xs ++ more) e ∙ append_assoc path zeros more ∙ ap (λ (xs : List ℕ). path ++ xs) f
+
 zeros_go_on : (field : List ℕ) → length field ≡ 256 → 0 < prefix_len is_printable field → prefix_len is_printable field ≤ 63
     → GoesOn (take (prefix_len is_printable field + prefix_len is_zero (drop (prefix_len is_printable field) field)) field)
 unfolding name_field
@@ -49,7 +51,7 @@ zeros_go_on field full some few =
       path = path;
       lawful = front_is_path field some few;
       rest = replicate more 0;
-      begins = ap (λ (ys : List ℕ). ys ++ replicate more 0) front ∙ append_assoc path (replicate zeros 0) (replicate more 0) ∙ ap (λ (ys : List ℕ). path ++ ys) filled;
+      begins = joined (take (long + zeros) field) path (replicate zeros 0) (replicate more 0) (replicate (256 - length path) 0) front filled;
     }
 
 -- ---- a field that can't begin so

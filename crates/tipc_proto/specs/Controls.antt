@@ -1,5 +1,5 @@
 -- A control message: type 4, body_len 4, then the body, all little endian.
-use Rattle.std.specs.Prelude.{◌≡◌, ℕ, zero, suc, ◌+◌, ◌^◌, ◌<◌, ◌==◌, ◌&&◌, not, if◌then◌else◌, nat_lt, List, [], ◌++◌, length, drop, Option, Some, None, Result, Ok, Err, IsTrue}
+use Rattle.std.specs.Prelude.{◌≡◌, ℕ, ◌^◌, ◌<◌, ◌==◌, ◌&&◌, if◌then◌else◌, nat_lt, List, [], ◌++◌, length, drop, Option, Some, None, Result, Ok, Err, IsTrue}
 use Rattle.byteorder.specs.Endian.{little_bytes, little_number}
 use Rattle.kernel_values.specs.Words.{is_path}
 use Rattle.tipc_proto.specs.declared.controls.Control.{Control}

@@ -1,4 +1,4 @@
-use Rattle.std.proofs.Common.{◌≡◌, ◌≤◌, ◌<◌, ◌∙◌, true, sym, ap, arith, take, List, ℕ, Option, Some, None, cond}
+use Rattle.std.proofs.Common.{◌≡◌, ◌∙◌, true, ap, arith, take, ℕ}
 use Rattle.std.specs.List.{prefix_len}
 use Rattle.kernel_values.specs.Words.{is_path, is_printable}
 use Rattle.tipc_proto.proofs.NameLaws.{front_is_path}
