@@ -1,9 +1,10 @@
 -- The bytes of a chain, part by part.
 use Rattle.std.proofs.Common.{◌≡◌, ℕ, zero, suc, ◌+◌, ◌-◌, ◌<◌, ◌≤◌, List, [], ◌∷◌, ◌++◌, length, get_or, set, take, drop, map, refl, sym, ap, ◌∙◌, append_assoc, min, arith}
 use Rattle.std.specs.List.{flat_map, fold, range_with_len, zip}
-use Rattle.std.proofs.lemmas.List.{append-nil, drop_more, map-append, length-set, length-take, length-append, take_more_set, drop-set-lt, drop-drop, take_at, drop_at, take-append-drop, take_min}
+use Rattle.std.proofs.lemmas.List.{append-nil, drop_more, map-append, length-map, length-set, length-take, length-append, take_more_set, drop-set-lt, drop-drop, take_at, drop_at, take-append-drop, take_min}
 use Rattle.std.proofs.lemmas.List.FromFn.{length-range_with_len}
 use Rattle.std.proofs.lemmas.List.Sums.{fold-append, sum_by_push}
+use Rattle.std.proofs.lemmas.List.Concat.{length-flat_map}
 use Rattle.std.proofs.lemmas.Grind.{flat_map-append}
 use Rattle.virtqueue.specs.declared.parts.Part.{Part}
 use Rattle.virtqueue.specs.Layout.{written_at}
@@ -137,3 +138,11 @@ store_more parts i d rest memory whole lt within so_far =
     sym (stored_part (get_or parts i d) (drop (i + 1) parts) rest memory within)
     ∙ ap (λ (ps : List Part). stored ps rest memory) (sym (drop_more parts i d lt))
     ∙ so_far
+
+-- as many bytes stand at the addresses as the parts hold
+pub bytes_long : (parts : List Part) (memory : List ℕ) → length (bytes_at parts memory) ≡ room parts
+unfolding bytes_at addresses room
+bytes_long parts memory =
+    length-map (addresses parts) (λ at. get_or memory at 0)
+    ∙ length-flat_map (λ part. range_with_len part.addr part.len) parts
+    ∙ simp length-range_with_len

@@ -1,4 +1,4 @@
-ghost use Rattle.std.specs.Prelude.{◌≡◌, ◌+◌, ◌≤◌, List, min, length, take, nat_le, if◌then◌else◌};
+ghost use Rattle.std.specs.Prelude.{◌≡◌, length, take, nat_le, if◌then◌else◌};
 ghost use Rattle.std.specs.List.{All};
 ghost use Rattle.virtqueue.specs.Layout.{written_at};
 ghost use Rattle.virtqueue.specs.Bytes.{IsWithin, room, bytes_at, stored};
@@ -33,6 +33,7 @@ pub fn read_chain(mem: &[u8], chain: &Chain, out: &mut [u8]) -> usize
     requires memory { length mem.now ≡ MEMORY_SIZE }
     requires parts { All IsWithin chain.now.parts }
     ensures count { result ≡ length (take (length out.old) (bytes_at chain.now.parts mem.now)) }
+    ensures whole { length (bytes_at chain.now.parts mem.now) ≡ room chain.now.parts }
     ensures bytes { out.new ≡ written_at 0 (take (length out.old) (bytes_at chain.now.parts mem.now)) out.old }
 {
     let parts = chain.parts.as_slice();

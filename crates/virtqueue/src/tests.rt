@@ -78,6 +78,27 @@ fn a_buffer_ends_within_memory(rt: HostRuntime) -> Result<(), Fail> {
 }
 
 #[test]
+fn each_fault_names_its_place(rt: HostRuntime) -> Result<(), Fail> {
+    let mut mem = zeros(rt.alloc(), MEMORY_SIZE)?;
+    publish(&mut mem, &queue(0, 4), 4);
+    let found = next_chain(&mem, &queue(0, 4));
+    assert!(rt; matches!(found, Err(RingFault::HeadOutOfRange(4))));
+    let mut mem = zeros(rt.alloc(), MEMORY_SIZE)?;
+    describe(&mut mem, 2, 0x40000, 1, 3, 4);
+    publish(&mut mem, &queue(0, 4), 2);
+    let found = next_chain(&mem, &queue(0, 4));
+    assert!(rt; matches!(found, Err(RingFault::NextOutOfRange(2))));
+    describe(&mut mem, 2, 0x40000, 1, 0, 0);
+    let found = next_chain(&mem, &queue(0, 4));
+    assert!(rt; matches!(found, Err(RingFault::WrongDirection(2))));
+    publish(&mut mem, &queue(1, 4), 0);
+    write_u16(&mut mem, 0x300c, 2);
+    let found = next_chain(&mem, &queue(1, 4));
+    assert!(rt; matches!(found, Err(RingFault::WrongDirection(0))));
+    Ok(())
+}
+
+#[test]
 fn a_chain_of_all_descriptors_is_lawful(rt: HostRuntime) -> Result<(), Fail> {
     let mut mem = zeros(rt.alloc(), MEMORY_SIZE)?;
     for place in 0..255u16 {

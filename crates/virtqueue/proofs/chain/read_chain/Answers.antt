@@ -2,7 +2,7 @@ use Rattle.std.proofs.Common.{◌≡◌, ◌+◌, ◌-◌, ◌≤◌, ◌<◌, �
 use Rattle.std.proofs.lemmas.List.{take_more, take-take, length-take, length-drop}
 use Rattle.virtqueue.specs.declared.parts.Part.{Part}
 use Rattle.virtqueue.specs.Bytes.{bytes_at}
-use Rattle.virtqueue.proofs.Bytes.{bytes_more, read_none, read_more}
+use Rattle.virtqueue.proofs.Bytes.{bytes_long, bytes_more, read_none, read_more}
 use Rattle.virtqueue.proofs.Writes.{put_there}
 use Rattle.virtqueue.proofs.chain.read_chain.Goals as goal
 
@@ -32,3 +32,6 @@ loop-part-preserved c =
       count = rw more step.0;
       bytes = rw (put, more) step.1;
     }
+
+pub returns-clause-whole : goal.returns-clause-whole
+returns-clause-whole c = bytes_long c.args.chain.now.parts c.args.mem.now
