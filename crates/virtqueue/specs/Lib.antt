@@ -1,0 +1,3 @@
+pub mod Layout
+pub mod Bytes
+pub mod Chains
