@@ -7,3 +7,4 @@ pub mod Turning
 pub mod Holding
 pub mod Joining
 pub mod Passes
+pub mod Slots

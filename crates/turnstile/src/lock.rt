@@ -1,5 +1,5 @@
 //! The lock.
-ghost use Rattle.std.specs.Prelude.{◌≡◌, ◌≢◌, ◌+◌, ◌<◌, ◌≤◌, IfOk, IfErr, MatchResult, List, [], length};
+ghost use Rattle.std.specs.Prelude.{◌≡◌, ◌<◌, ◌≤◌, ◌^◌, true, false, IfOk, IfErr, Some, [], ◌∷◌, length};
 
 use crate::pass::Pass;
 use crate::rule::{Count, InTurn, Opening};
@@ -42,8 +42,101 @@ pub struct Busy {
 impl<V: Recorded + Drop> Turnstile<V> {
     ghost use Rattle.turnstile.specs.Names.{table_of, first_of};
     ghost use Rattle.turnstile.specs.Passes.{IsPassOf, view};
-    ghost use Rattle.turnstile.specs.Views.{first_view, counted};
+    ghost use Rattle.turnstile.specs.Views.{first_view, counted, tried, entered, left, added};
+    ghost use Rattle.turnstile.specs.Steps.{Continues, AddsOne, IsOfAnother};
 
+    /// A turnstile over the value for `seats` passes, and the first of them.
+    pub fn new(
+        alloc: Global,
+        value: V,
+        seats: u32,
+    ) -> Result<(Turnstile<V>, Pass), NewRefused<V>>
+        requires { 0 < seats }
+        ensures ok { IfOk result (λ r. (first_of r.0 ≡ value) × (r.0.seats ≡ seats)) }
+        ensures pass { IfOk result (λ r. IsPassOf (table_of r.0) (V.origin value) seats r.1 × (view r.1 ≡ first_view (V.history value) (V.origin value) seats)) }
+        ensures err { IfErr result (λ r. r.value ≡ value) }
+    {
+        let words = [value.recorded(), 0, 1];
+        let about = Opening {
+            value: Snapshot::of(&value),
+            seats,
+        };
+        let mut slots = Vec::new(alloc);
+        if let Err(AllocFailed { value: Some(value) }) = slots.push(Some(value)) {
+            return Err(NewRefused { value });
+        }
+        match Table::new(alloc, &words, slots, &about) {
+            Ok((table, seat)) => {
+                let pass = Pass {
+                    badge: seat.into_badge(),
+                    number: 0,
+                    drawn: 1,
+                };
+                Ok((Turnstile { table, seats }, pass))
+            }
+            Err(refused) => Err(NewRefused {
+                value: value_of(refused),
+            }),
+        }
+    }
+
+    /// Takes the value, if the turn is free.
+    pub fn try_enter(&self, pass: &mut Pass) -> Result<V, Busy>
+        requires pass { IsPassOf (table_of self.now) (V.origin (first_of self.now)) self.now.seats pass.old }
+        requires out { (view pass.old).has_turn ≡ false }
+        ensures pass { IsPassOf (table_of self.now) (V.origin (first_of self.now)) self.now.seats pass.new }
+        ensures ok { IfOk result (λ value. (view pass.new ≡ entered (view pass.old) (V.history value)) × Continues (view pass.old) (V.history value) × (V.origin value ≡ V.origin (first_of self.now))) }
+        ensures busy { IfErr result (λ busy. (view pass.new ≡ tried (view pass.old) busy.word) × IsOfAnother (view pass.old) busy.word) }
+    {
+        let number = pass.number;
+        let mut seat = pass.take_seat::<V>();
+        let outcome = self.try_turn(&mut seat, number);
+        pass.return_seat(seat);
+        outcome
+    }
+
+    fn try_turn(&self, seat: &mut Seat<Option<V>, View>, number: u32) -> Result<V, Busy>
+        requires seat { (seat.old.table_id ≡ table_of self.now) × (seat.old.me.1 ≡ []) }
+        requires view { (seat.old.me.0.number ≡ Some number) × (seat.old.me.0.has_turn ≡ false) × (seat.old.me.0.spent ≡ false) }
+        ensures seat { (seat.new.table_id ≡ seat.old.table_id) × (seat.new.me.1 ≡ []) }
+        ensures ok { IfOk result (λ value. (seat.new.me.0 ≡ entered seat.old.me.0 (V.history value)) × Continues seat.old.me.0 (V.history value) × (V.origin value ≡ seat.old.me.0.origin)) }
+        ensures busy { IfErr result (λ busy. (seat.new.me.0 ≡ tried seat.old.me.0 busy.word) × IsOfAnother seat.old.me.0 busy.word) }
+    {
+        self.take_turn(seat, number)?;
+        Ok(self.take_value(seat))
+    }
+
+    /// Gives the value back with the history that it had.
+    pub fn leave(&self, pass: &mut Pass, value: V)
+        requires pass { IsPassOf (table_of self.now) (V.origin (first_of self.now)) self.now.seats pass.old }
+        requires holds { (view pass.old).has_turn ≡ true }
+        requires history { V.history value ≡ (view pass.old).seen }
+        requires origin { V.origin value ≡ V.origin (first_of self.now) }
+        ensures pass { IsPassOf (table_of self.now) (V.origin (first_of self.now)) self.now.seats pass.new }
+        ensures view { view pass.new ≡ left (view pass.old) }
+    {
+        let mut seat = pass.take_seat::<V>();
+        self.lay_value(&mut seat, value);
+        self.give_turn(&mut seat);
+        pass.return_seat(seat);
+    }
+
+    /// Gives the value back with one entry more.
+    pub fn leave_with(&self, pass: &mut Pass, value: V)
+        requires pass { IsPassOf (table_of self.now) (V.origin (first_of self.now)) self.now.seats pass.old }
+        requires holds { (view pass.old).has_turn ≡ true }
+        requires history { AddsOne (view pass.old).seen (V.history value) }
+        requires room { length (V.history value) < 2 ^ 64 }
+        requires origin { V.origin value ≡ V.origin (first_of self.now) }
+        ensures pass { IsPassOf (table_of self.now) (V.origin (first_of self.now)) self.now.seats pass.new }
+        ensures view { view pass.new ≡ left (added (view pass.old) (V.history value)) }
+    {
+        let mut seat = pass.take_seat::<V>();
+        self.lay_value(&mut seat, value);
+        self.add_entry(&mut seat);
+        self.give_turn(&mut seat);
+        pass.return_seat(seat);
+    }
     /// How many entries the history has, and no fewer than this pass knew of.
     pub fn count(&self, pass: &mut Pass) -> u64
         requires { IsPassOf (table_of self.now) (V.origin (first_of self.now)) self.now.seats pass.old }
@@ -54,5 +147,17 @@ impl<V: Recorded + Drop> Turnstile<V> {
         let known = self.table.shared.load::<Count>(&mut seat, ENTRIES);
         pass.return_seat(seat);
         known
+    }
+}
+
+// The value that was to lie in a table's one slot.
+fn value_of<V: Drop>(refused: Refused<Option<V>, Global>) -> V
+    requires { (x : V) × (refused.slots.items ≡ Some x ∷ []) }
+    ensures { refused.slots.items ≡ Some result ∷ [] }
+{
+    let Refused { mut slots } = refused;
+    match slots.pop() {
+        Some(Some(value)) => value,
+        _ => unreachable!(),
     }
 }
