@@ -1,0 +1,5 @@
+pub mod Commands
+pub mod Lending
+pub mod Origin
+pub mod SceneLaw
+pub mod Words
