@@ -1,17 +1,19 @@
 -- A pass stays a pass of its turnstile.
-use Rattle.std.proofs.Common.{◌≡◌, ◌≢◌, ℕ, suc, ◌+◌, ◌<◌, ◌≤◌, Bool, true, false, List, [], ◌∷◌, ◌++◌, length, Option, Some, sym, refl, ap, ◌∙◌, subst, arith, length-append}
+use Rattle.std.proofs.Common.{Result, Ok, Err, IfOk, IfErr, get_or, ◌≡◌, ◌≢◌, ℕ, suc, ◌+◌, ◌<◌, ◌≤◌, Bool, true, false, List, [], ◌∷◌, ◌++◌, length, Option, Some, sym, refl, ap, ◌∙◌, subst, arith, length-append}
 use mathlib.Core.List.{IsPrefix}
 use Rattle.atomic_table.specs.Seated.{TableId}
 use Rattle.kernel_values.specs.declared.entry.Entry.{Entry}
 use Rattle.kernel_values.specs.Origin.{Origin}
+use Rattle.atomic_table.specs.declared.badge.Badge.{Badge}
 use Rattle.turnstile.specs.declared.view.View.{View}
+use Rattle.turnstile.specs.declared.lock.Busy.{Busy}
 use Rattle.turnstile.specs.declared.pass.Pass.{Pass}
 use Rattle.turnstile.specs.Numbers.{Rises}
-use Rattle.turnstile.specs.Views.{counted, tried, won, fetched, shut, entered, added, left}
-use Rattle.turnstile.specs.Steps.{Continues, AddsOne}
+use Rattle.turnstile.specs.Views.{first_view, given_up, counted, tried, won, fetched, shut, entered, added, left}
+use Rattle.turnstile.specs.Steps.{Continues, AddsOne, IsOfAnother}
 use Rattle.turnstile.specs.Passes.{view, IsSound, IsPassOf}
 use Rattle.turnstile.proofs.Begins.{begins_length}
-use Rattle.turnstile.proofs.Rising.{rises_wider, rises_more}
+use Rattle.turnstile.proofs.Rising.{rises_wider, rises_more, rises_below}
 
 module _ (origin : Origin) (seats number drawn : ℕ) (v : View) (s : IsSound origin seats number drawn v) where
   pub sound_counted : (n : ℕ) → v.known ≤ n → IsSound origin seats number drawn (counted v n)
@@ -36,3 +38,18 @@ module _ (origin : Origin) (seats number drawn : ℕ) (v : View) (s : IsSound or
 pub same_pass : (table : TableId) (origin : Origin) (seats : ℕ) (p q : Pass) (w : View) → IsPassOf table origin seats p → q.badge.table_id ≡ table → q.badge.views ≡ view q ∷ [] → view q ≡ w → q.number ≡ p.number → q.drawn ≡ p.drawn
     → IsSound origin seats p.number p.drawn w → IsPassOf table origin seats q
 same_pass table origin seats p q w is at views same number drawn sound = (at, views, subst (λ (z : View × (ℕ × ℕ)). IsSound origin seats z.1.0 z.1.1 z.0) (λ i. (sym same i, (sym number i, sym drawn i))) sound)
+
+-- after one try to enter
+pub sound_outcome : {T : Type 0} (history : T → List Entry) (origin : T → Origin) (begun : Origin) (seats number drawn : ℕ) (v w : View) (r : Result T Busy) → IsSound begun seats number drawn v
+    → IfOk r (λ value. (w ≡ entered v (history value)) × Continues v (history value) × (origin value ≡ v.origin)) → IfErr r (λ busy. (w ≡ tried v busy.word) × IsOfAnother v busy.word) → IsSound begun seats number drawn w
+sound_outcome history origin begun seats number drawn v w (Ok value) s ok err = subst (IsSound begun seats number drawn) (sym ok.0) (sound_entered begun seats number drawn v s (history value) ok.1)
+sound_outcome history origin begun seats number drawn v w (Err busy) s ok err = subst (IsSound begun seats number drawn) (sym err.0) (sound_tried begun seats number drawn v s busy.word)
+
+sound_first : (history : List Entry) (origin : Origin) (seats : ℕ) → 0 < seats → IsSound origin seats 0 1 (first_view history origin seats)
+sound_first history origin seats some = record { spent = refl; origin_is = refl; seats_is = refl; number_is = refl; drawn_is = refl; few = omega arith; knows = omega arith; rises = rises_below (length history); holds = refl; shut = refl }
+
+pub first_pass : (table : TableId) (history : List Entry) (origin : Origin) (seats : ℕ) (b : Badge View) → 0 < seats → b.table_id ≡ table → b.views ≡ first_view history origin seats ∷ []
+    → IsPassOf table origin seats record { badge = b; number = 0; drawn = 1 } × (view record { badge = b; number = 0; drawn = 1 } ≡ first_view history origin seats)
+first_pass table history origin seats b some at views =
+    let same : get_or b.views 0 given_up ≡ first_view history origin seats = ap (λ l. get_or l 0 given_up) views in
+    ((at, views ∙ ap (λ v. v ∷ []) (sym same), subst (IsSound origin seats 0 1) (sym same) (sound_first history origin seats some)), same)

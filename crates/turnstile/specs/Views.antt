@@ -35,6 +35,10 @@ won v = record v { has_turn = true; turns = v.turns + 1; loaded = false }
 abbrev pub tried : View → ℕ → View
 tried v word = record v { tries = v.tries + 1; last = word }
 
+-- it found the turn held so many times in all, the last time by this word
+abbrev pub waited : View → ℕ → ℕ → View
+waited v tries last = record v { tries = tries; last = last }
+
 -- it took the slot, whose value has this history
 abbrev pub fetched : View → List Entry → View
 fetched v history = record v { seen = history; known = length history; loaded = true; opens = true }
@@ -134,3 +138,7 @@ given_up = record {
   opens = false;
   spent = true;
 }
+
+-- it found that every number was drawn, and took back the new view that it had made
+abbrev pub found_none : View → View
+found_none v = record v { drawn = v.seats; olds = v.olds ++ (v.seen ∷ v.seen ∷ []) }

@@ -5,9 +5,11 @@
 mod lock;
 mod pass;
 mod rule;
+mod split;
 mod steps;
 mod view;
 
 pub use lock::{Busy, NewRefused, Turnstile};
 pub use pass::Pass;
+pub use split::SplitRefused;
 pub use view::View;

@@ -8,6 +8,7 @@ use atomic_table::{Refused, Seat, Table};
 use kernel_values::Recorded;
 use std::alloc::{AllocFailed, Global};
 use std::snapshot::Snapshot;
+use std::sync::Wait;
 
 /// The number of entries of the history.
 pub(crate) const ENTRIES: usize = 0;
@@ -24,7 +25,7 @@ pub struct Turnstile<V: Recorded + Drop> {
     pub(crate) table: Table<Option<V>, View, Opening<V>, InTurn<V>, Global>,
     pub(crate) seats: u32,
     ghost sized: { (table.shared.table_id.words ≡ 3) × (table.shared.table_id.slots ≡ 1) },
-    ghost counted: { table.shared.key.seats ≡ seats },
+    ghost counted: { (table.shared.key.seats ≡ seats) × (0 < seats) },
 }
 
 /// There was no memory. The value comes back.
@@ -42,7 +43,7 @@ pub struct Busy {
 impl<V: Recorded + Drop> Turnstile<V> {
     ghost use Rattle.turnstile.specs.Names.{table_of, first_of};
     ghost use Rattle.turnstile.specs.Passes.{IsPassOf, view};
-    ghost use Rattle.turnstile.specs.Views.{first_view, counted, tried, entered, left, added};
+    ghost use Rattle.turnstile.specs.Views.{first_view, counted, tried, waited, won, entered, left, added};
     ghost use Rattle.turnstile.specs.Steps.{Continues, AddsOne, IsOfAnother};
 
     /// A turnstile over the value for `seats` passes, and the first of them.
@@ -61,10 +62,7 @@ impl<V: Recorded + Drop> Turnstile<V> {
             value: Snapshot::of(&value),
             seats,
         };
-        let mut slots = Vec::new(alloc);
-        if let Err(AllocFailed { value: Some(value) }) = slots.push(Some(value)) {
-            return Err(NewRefused { value });
-        }
+        let slots = one_slot(alloc, value)?;
         match Table::new(alloc, &words, slots, &about) {
             Ok((table, seat)) => {
                 let pass = Pass {
@@ -104,6 +102,44 @@ impl<V: Recorded + Drop> Turnstile<V> {
     {
         self.take_turn(seat, number)?;
         Ok(self.take_value(seat))
+    }
+
+    /// Waits for the turn, and takes the value.
+    pub fn enter(&self, rt: &impl Wait, pass: &mut Pass) -> V
+        requires pass { IsPassOf (table_of self.now) (V.origin (first_of self.now)) self.now.seats pass.old }
+        requires out { (view pass.old).has_turn ≡ false }
+        ensures pass { IsPassOf (table_of self.now) (V.origin (first_of self.now)) self.now.seats pass.new }
+        ensures tries { (view pass.old).tries ≤ (view pass.new).tries }
+        ensures view { view pass.new ≡ entered (waited (view pass.old) (view pass.new).tries (view pass.new).last) (V.history result) }
+        ensures history { Continues (view pass.old) (V.history result) }
+        ensures origin { V.origin result ≡ V.origin (first_of self.now) }
+    {
+        let number = pass.number;
+        let mut seat = pass.take_seat::<V>();
+        self.wait_turn(rt, &mut seat, number);
+        let value = self.take_value(&mut seat);
+        pass.return_seat(seat);
+        value
+    }
+
+    // Tries to take the turn, and sleeps while another has it.
+    fn wait_turn<R: Wait>(&self, rt: &R, seat: &mut Seat<Option<V>, View>, number: u32)
+        requires seat { (seat.old.table_id ≡ table_of self.now) × (seat.old.me.1 ≡ []) }
+        requires view { (seat.old.me.0.number ≡ Some number) × (seat.old.me.0.has_turn ≡ false) × (seat.old.me.0.spent ≡ false) }
+        ensures seat { (seat.new.table_id ≡ seat.old.table_id) × (seat.new.me.1 ≡ []) }
+        ensures tries { seat.old.me.0.tries ≤ seat.new.me.0.tries }
+        ensures view { seat.new.me.0 ≡ won (waited seat.old.me.0 seat.new.me.0.tries seat.new.me.0.last) }
+    {
+        for _ in rt.forever() {
+            match self.take_turn(seat, number) {
+                Ok(()) => return,
+                Err(busy) => self
+                    .table
+                    .shared
+                    .park(rt, TURN, (busy.word % (1 << 32)) as u32),
+            }
+        }
+        unreachable!()
     }
 
     /// Gives the value back with the history that it had.
@@ -147,6 +183,19 @@ impl<V: Recorded + Drop> Turnstile<V> {
         let known = self.table.shared.load::<Count>(&mut seat, ENTRIES);
         pass.return_seat(seat);
         known
+    }
+}
+
+// The value, where a table takes its slots from.
+fn one_slot<V: Drop>(alloc: Global, value: V) -> Result<Vec<Option<V>>, NewRefused<V>>
+    ensures ok { IfOk result (λ slots. slots.items ≡ Some value ∷ []) }
+    ensures err { IfErr result (λ r. r.value ≡ value) }
+{
+    let mut slots = Vec::new(alloc);
+    match slots.push(Some(value)) {
+        Ok(()) => Ok(slots),
+        Err(AllocFailed { value: Some(value) }) => Err(NewRefused { value }),
+        Err(_) => unreachable!(),
     }
 }
 
