@@ -8,3 +8,4 @@ pub mod Holding
 pub mod Joining
 pub mod Passes
 pub mod Slots
+pub mod Gathering

@@ -1,6 +1,6 @@
 -- A pass stays a pass of its turnstile.
-use Rattle.std.proofs.Common.{Result, Ok, Err, IfOk, IfErr, get_or, ◌≡◌, ◌≢◌, ℕ, suc, ◌+◌, ◌<◌, ◌≤◌, Bool, true, false, List, [], ◌∷◌, ◌++◌, length, Option, Some, sym, refl, ap, ◌∙◌, subst, arith, length-append}
-use mathlib.Core.List.{IsPrefix}
+use Rattle.std.proofs.Common.{Result, Ok, Err, IfOk, IfErr, get_or, ◌≡◌, ◌≢◌, ℕ, suc, ◌+◌, ◌<◌, ◌≤◌, max, Bool, true, false, List, [], ◌∷◌, ◌++◌, length, Option, Some, sym, refl, ap, ◌∙◌, subst, arith, length-append}
+use mathlib.Core.List.{IsPrefix, append-nil}
 use Rattle.atomic_table.specs.Seated.{TableId}
 use Rattle.kernel_values.specs.declared.entry.Entry.{Entry}
 use Rattle.kernel_values.specs.Origin.{Origin}
@@ -8,12 +8,12 @@ use Rattle.atomic_table.specs.declared.badge.Badge.{Badge}
 use Rattle.turnstile.specs.declared.view.View.{View}
 use Rattle.turnstile.specs.declared.lock.Busy.{Busy}
 use Rattle.turnstile.specs.declared.pass.Pass.{Pass}
-use Rattle.turnstile.specs.Numbers.{Rises}
-use Rattle.turnstile.specs.Views.{first_view, given_up, counted, tried, won, fetched, shut, entered, added, left}
+use Rattle.turnstile.specs.Numbers.{Rises, merged}
+use Rattle.turnstile.specs.Views.{first_view, given_up, counted, tried, waited, found_none, both, missed, child, longer, won, fetched, shut, entered, added, left}
 use Rattle.turnstile.specs.Steps.{Continues, AddsOne, IsOfAnother}
 use Rattle.turnstile.specs.Passes.{view, IsSound, IsPassOf}
-use Rattle.turnstile.proofs.Begins.{begins_length}
-use Rattle.turnstile.proofs.Rising.{rises_wider, rises_more, rises_below}
+use Rattle.turnstile.proofs.Begins.{begins_length, longer_first}
+use Rattle.turnstile.proofs.Rising.{rises_wider, rises_more, rises_below, merged_none}
 
 module _ (origin : Origin) (seats number drawn : ℕ) (v : View) (s : IsSound origin seats number drawn v) where
   pub sound_counted : (n : ℕ) → v.known ≤ n → IsSound origin seats number drawn (counted v n)
@@ -21,6 +21,19 @@ module _ (origin : Origin) (seats number drawn : ℕ) (v : View) (s : IsSound or
 
   pub sound_tried : (n : ℕ) → IsSound origin seats number drawn (tried v n)
   sound_tried n = record { spent = s.spent; origin_is = s.origin_is; seats_is = s.seats_is; number_is = s.number_is; drawn_is = s.drawn_is; few = s.few; knows = s.knows; rises = s.rises; holds = s.holds; shut = s.shut }
+
+  pub sound_waited : (tries last : ℕ) → IsSound origin seats number drawn (waited v tries last)
+  sound_waited tries last = record { spent = s.spent; origin_is = s.origin_is; seats_is = s.seats_is; number_is = s.number_is; drawn_is = s.drawn_is; few = s.few; knows = s.knows; rises = s.rises; holds = s.holds; shut = s.shut }
+
+  pub sound_found_none : IsSound origin seats number seats (found_none v)
+  sound_found_none = record { spent = s.spent; origin_is = s.origin_is; seats_is = s.seats_is; number_is = s.number_is; drawn_is = s.seats_is; few = omega arith; knows = s.knows; rises = s.rises; holds = s.holds; shut = s.shut }
+
+  -- what is left of a new view that found no number
+  pub nothing_new : both v (missed (child v) seats) ≡ found_none v
+  nothing_new =
+      let seen : longer v.seen v.seen ≡ v.seen = longer_first v.seen v.seen (omega arith) in let known : max v.known v.known ≡ v.known = omega arith in let mine : merged v.mine [] ≡ v.mine = merged_none 0 (length v.seen) v.mine s.rises in
+      let few = s.few in let is = s.seats_is in let drawn_is = s.drawn_is in let drawn' : max v.drawn seats ≡ v.seats = omega arith in let joined : v.joined ++ [] ≡ v.joined = append-nil v.joined in
+      λ i. record v { seen = seen i; known = known i; mine = mine i; drawn = drawn' i; joined = joined i; olds = v.olds ++ (v.seen ∷ v.seen ∷ []) }
 
   pub sound_entered : (history : List Entry) → Continues v history → IsSound origin seats number drawn (entered v history)
   sound_entered history on = record { spent = s.spent; origin_is = s.origin_is; seats_is = s.seats_is; number_is = s.number_is; drawn_is = s.drawn_is; few = s.few; knows = omega arith;
@@ -33,6 +46,10 @@ module _ (origin : Origin) (seats number drawn : ℕ) (v : View) (s : IsSound or
   sound_added history one = let len : length history ≡ suc (length v.seen) = ap (λ (l : List Entry). length l) one.1 ∙ (let a = length-append v.seen (one.0 ∷ []) in omega arith) in
     record { spent = s.spent; origin_is = s.origin_is; seats_is = s.seats_is; number_is = s.number_is; drawn_is = s.drawn_is; few = s.few; knows = omega arith;
       rises = subst (λ m. Rises 0 m (v.mine ++ length v.seen ∷ [])) (sym len) (rises_more 0 (length v.seen) v.mine (omega arith) s.rises); holds = s.holds; shut = s.shut }
+
+-- a pass from its parts
+pub is_pass : (table : TableId) (origin : Origin) (seats number drawn : ℕ) (q : Pass) (w : View) → q.badge.table_id ≡ table → q.badge.views ≡ view q ∷ [] → view q ≡ w → q.number ≡ number → q.drawn ≡ drawn → IsSound origin seats number drawn w → IsPassOf table origin seats q
+is_pass table origin seats number drawn q w at views same number_is drawn_is sound = (at, views, subst (λ (z : View × (ℕ × ℕ)). IsSound origin seats z.1.0 z.1.1 z.0) (λ i. (sym same i, (sym number_is i, sym drawn_is i))) sound)
 
 -- the pass with another view
 pub same_pass : (table : TableId) (origin : Origin) (seats : ℕ) (p q : Pass) (w : View) → IsPassOf table origin seats p → q.badge.table_id ≡ table → q.badge.views ≡ view q ∷ [] → view q ≡ w → q.number ≡ p.number → q.drawn ≡ p.drawn

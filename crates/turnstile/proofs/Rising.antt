@@ -58,3 +58,14 @@ rises_merged low high (x ∷ xs) ys apart r q =
     let one : ℕ = cond (eqb x x) 1 0 in let is : one ≡ 1 = once x in let at : (one + times x xs) + times x ys ≤ 1 = apart x in let sum : times x (merged xs ys) ≡ times x xs + times x ys = times_merged x xs ys in
     let none : times x (merged xs ys) ≡ 0 = omega arith in
     rises_placed low high x (merged xs ys) r.0 r.1 none (rises_merged low high xs ys (λ k. let a : ℕ = cond (eqb x k) 1 0 in let both : (a + times k xs) + times k ys ≤ 1 = apart k in omega arith) (rises_lower (suc x) low high xs (omega arith) r.2) q)
+
+is_less : (x y : ℕ) → suc x ≤ y → ltb x y ≡ true
+is_less x y h = grind arith
+
+placed_first : (x high : ℕ) (ys : List ℕ) → Rises (suc x) high ys → placed x ys ≡ x ∷ ys
+placed_first x high [] r = refl
+placed_first x high (y ∷ ys) r = ap (λ b. cond b (x ∷ y ∷ ys) (y ∷ placed x ys)) (is_less x y r.0)
+
+pub merged_none : (low high : ℕ) (xs : List ℕ) → Rises low high xs → merged xs [] ≡ xs
+merged_none low high [] r = refl
+merged_none low high (x ∷ xs) r = ap (placed x) (merged_none (suc x) high xs r.2) ∙ placed_first x high xs r.2

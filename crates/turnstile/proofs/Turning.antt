@@ -132,18 +132,39 @@ module _ {T : Type 0} (history : T → List Entry) (origin : T → Origin) (abou
     fresh = f.fresh;
   }
 
+  -- a view has no number twice, and none past the number of seats
+  own_numbers : (log : List Entry) (turn : Turn T) (given : ℕ) (views : List View) (id n : ℕ) (v : View) → Good history origin about log turn given views → get_elem? views id ≡ some v → times n (numbers v) ≤ once_below n about.seats
+  own_numbers log turn given views id n v g at = let a = total_at (λ (u : View). times n (numbers u)) views id v at in let b = g.names n in let c = once_within n given about.seats g.few in omega arith
+
+  -- a view that has every number has every place
+  has_all : (log : List Entry) (turn : Turn T) (given : ℕ) (views : List View) (id : ℕ) (v : View) → Good history origin about log turn given views → get_elem? views id ≡ some v → v.spent ≡ false → HasAllIfAlone v (length log)
+  has_all log turn given views id v g at live all k =
+      let seats : v.seats ≡ about.seats = ((g.each id v at).born live).1 in let few = g.few in
+      let own : (n : ℕ) → times n (numbers v) ≤ once_below n about.seats = λ n. own_numbers log turn given views id n v g at in
+      let none_left : (j : ℕ) (u : View) → j ≢ id → get_elem? views j ≡ some u → (n : ℕ) → times n (numbers u) ≡ 0 = λ j u ne e n.
+        let a = total_two (λ (u : View). times n (numbers u)) views id j v u (λ q. ne (sym q)) at e in let b = g.names n in let c = at_most_once n given in let d = once_within n given about.seats few in
+        dite (dec_le about.seats n) (λ far. let z = not_below n about.seats far in omega arith) (λ near. let one = pigeons (numbers v) about.seats n (omega arith) own (omega arith) in omega arith) in
+      let blank : (j : ℕ) (u : View) → j ≢ id → get_elem? views j ≡ some u → times k u.mine ≡ 0 = λ j u ne e.
+        let h = none_left j u ne e in let f = g.each j u e in
+        let go : (o : Option ℕ) → u.number ≡ o → times k u.mine ≡ 0 = elim [
+          None ↦ (λ is. ap (times k) (f.fresh is).0)
+          | Some n ↦ (λ is. let one : ℕ = cond (eqb n n) 1 0 in let is_one : one ≡ 1 = once n in let here : times n (numbers u) ≡ one + times n u.joined = ap (λ (o : Option ℕ). times n (own_number o ++ u.joined)) is in let z = h n in absurd (omega arith))
+        ] in go u.number refl in
+      sym (total_alone (λ (u : View). times k u.mine) views id v at blank) ∙ g.places k
+
   -- A try to take the turn.
   misses : (slots id n m j : ℕ) (v h : View) (carried : List (ℕ × Option T)) (log : List Entry) (turn : Turn T) (given : ℕ) (views : List View) → Good history origin about log turn given views → get_elem? views id ≡ some v → v.spent ≡ false → word_of turn ≡ m + 1
       → id ≢ j → get_elem? views j ≡ some h → h.number ≡ Some m → Goes history origin about id (v, carried) 1 (λ w. either (eqb w 0) (n + 1) w) (Takes (step slots 1 0 (n + 1) none) (v, carried)) (length log ∷ word_of turn ∷ given ∷ []) (slot_of turn ∷ []) views
   misses slots id n m j v h carried log turn given views g at live is ne e has =
       let other = others_number log turn given views id j m v h g at live ne e has in
-      let held : word_of turn ≢ 0 = λ z. omega arith in (
+      let held : word_of turn ≢ 0 = λ z. omega arith in let seats : v.seats ≡ about.seats = ((g.each id v at).born live).1 in
+      let not_all : length (numbers v) < v.seats = dite (dec_le v.seats (length (numbers v))) (λ all. let below_it = other.0 in let none = other.1 in let one = pigeons (numbers v) about.seats m (omega arith) (λ k. own_numbers log turn given views id k v g at) (omega arith) in absurd (omega arith)) (λ few. omega arith) in (
         tried v (word_of turn),
         keeps,
         tt,
         exchanged (word_of turn) 0 (n + 1) (λ w. Kept history origin about record { words = length log ∷ w ∷ given ∷ []; homes = slot_of turn ∷ []; views = set views id (tried v (word_of turn)) }) (λ z. absurd (held z))
         (λ _. record { log = log; turn = turn; given = given; words = refl; homes = refl; good = unmoved log turn given views id v (tried v (word_of turn)) g at (tried_fits log turn given id (word_of turn) v (g.each id v at)) refl refl }),
-        (refl, (λ z. absurd (held z)), λ _. (refl, (m, is, other.0, other.1))),
+        (refl, (λ z. absurd (held z)), λ _. (refl, (m, is, other.0, other.1), not_all)),
       )
 
   wins : (slots id n : ℕ) (v : View) (carried : List (ℕ × Option T)) (log : List Entry) (x : T) (given : ℕ) (views : List View) → v.number ≡ Some n → Good history origin about log (free x) given views → get_elem? views id ≡ some v
@@ -171,22 +192,6 @@ module _ {T : Type 0} (history : T → List Entry) (origin : T → Origin) (abou
           | out opens j m ↦ (λ g at. let w = (g.each j g.there.0 g.there.1).turns.0 refl in
             misses slots id n m j v g.there.0 carried log (out opens j m) given views g at live refl (λ e. is_not v.has_turn ((g.each id v at).turns.0 e).0 idle) g.there.1 w.3)
         ] in go turn)
-
-  -- a view that has every number has every place
-  has_all : (log : List Entry) (turn : Turn T) (given : ℕ) (views : List View) (id : ℕ) (v : View) → Good history origin about log turn given views → get_elem? views id ≡ some v → v.spent ≡ false → HasAllIfAlone v (length log)
-  has_all log turn given views id v g at live all k =
-      let seats : v.seats ≡ about.seats = ((g.each id v at).born live).1 in let few = g.few in
-      let own : (n : ℕ) → times n (numbers v) ≤ once_below n about.seats = λ n. let a = total_at (λ (u : View). times n (numbers u)) views id v at in let b = g.names n in let c = once_within n given about.seats few in omega arith in
-      let none_left : (j : ℕ) (u : View) → j ≢ id → get_elem? views j ≡ some u → (n : ℕ) → times n (numbers u) ≡ 0 = λ j u ne e n.
-        let a = total_two (λ (u : View). times n (numbers u)) views id j v u (λ q. ne (sym q)) at e in let b = g.names n in let c = at_most_once n given in let d = once_within n given about.seats few in
-        dite (dec_le about.seats n) (λ far. let z = not_below n about.seats far in omega arith) (λ near. let one = pigeons (numbers v) about.seats n (omega arith) own (omega arith) in omega arith) in
-      let blank : (j : ℕ) (u : View) → j ≢ id → get_elem? views j ≡ some u → times k u.mine ≡ 0 = λ j u ne e.
-        let h = none_left j u ne e in let f = g.each j u e in
-        let go : (o : Option ℕ) → u.number ≡ o → times k u.mine ≡ 0 = elim [
-          None ↦ (λ is. ap (times k) (f.fresh is).0)
-          | Some n ↦ (λ is. let one : ℕ = cond (eqb n n) 1 0 in let is_one : one ≡ 1 = once n in let here : times n (numbers u) ≡ one + times n u.joined = ap (λ (o : Option ℕ). times n (own_number o ++ u.joined)) is in let z = h n in absurd (omega arith))
-        ] in go u.number refl in
-      sym (total_alone (λ (u : View). times k u.mine) views id v at blank) ∙ g.places k
 
   -- A look at the number of entries that takes the slot.
   fetches_at : (slots id : ℕ) (v : View) → v.has_turn ≡ true → v.loaded ≡ false → v.spent ≡ false → Allows (Kept history origin about) slots id (v, []) 0 (λ n. n) (Fetches history origin (step slots 0 0 0 none) (v, []))
@@ -263,3 +268,6 @@ module _ {T : Type 0} (history : T → List Entry) (origin : T → Origin) (abou
             good = unmoved log turn given views id v w g at (missed_fits log turn given id v f) refl refl },
           (refl, (λ e. absurd (ne e)), λ _. (refl, omega arith, omega arith)),
         )))
+
+  pub draws_from : (slots id d : ℕ) (m : Sat T) → m.0.drawn ≡ d → m.0.number ≡ None → m.0.spent ≡ false → d < m.0.seats → Allows (Kept history origin about) slots id m 2 (λ n. either (eqb n d) (d + 1) n) (Draws (step slots 2 d (d + 1) none) m)
+  draws_from slots id d m is new live room = subst (λ k. Allows (Kept history origin about) slots id m 2 (λ n. either (eqb n k) (k + 1) n) (Draws (step slots 2 k (k + 1) none) m)) is (draws slots id m.0 m.1 new live (omega arith))

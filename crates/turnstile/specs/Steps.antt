@@ -31,7 +31,7 @@ Sat T = Me (Option T) View
 
 module _ {T : Type 0} where
   abbrev pub Takes : Step (Option T) → Sat T → ℕ → Sat T → Type 0
-  Takes st m word m' = (m'.1 ≡ m.1) × (word ≡ 0 → m'.0 ≡ won m.0) × (word ≢ 0 → (m'.0 ≡ tried m.0 word) × IsOfAnother m.0 word)
+  Takes st m word m' = (m'.1 ≡ m.1) × (word ≡ 0 → m'.0 ≡ won m.0) × (word ≢ 0 → (m'.0 ≡ tried m.0 word) × IsOfAnother m.0 word × (length (numbers m.0) < m.0.seats))
 
   abbrev pub Counts : Step (Option T) → Sat T → ℕ → Sat T → Type 0
   Counts st m len m' = (m'.1 ≡ m.1) × (m'.0 ≡ counted m.0 len) × (m.0.known ≤ len)

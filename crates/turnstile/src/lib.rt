@@ -2,6 +2,7 @@
 //! with one entry more. Each pass carries, for proofs alone, what its holder has seen of the history and which entries are its own.
 #![tactic(auto)]
 
+mod close;
 mod lock;
 mod pass;
 mod rule;
@@ -9,6 +10,7 @@ mod split;
 mod steps;
 mod view;
 
+pub use close::CloseRefused;
 pub use lock::{Busy, NewRefused, Turnstile};
 pub use pass::Pass;
 pub use split::SplitRefused;

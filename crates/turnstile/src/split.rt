@@ -1,5 +1,5 @@
 //! Further passes.
-ghost use Rattle.std.specs.Prelude.{◌≡◌, ◌≢◌, ◌<◌, ◌≤◌, ◌↔◌, false, Some, None, Ok, Err, [], MatchResult, IfOk, IfErr, IfSome, IfNone};
+ghost use Rattle.std.specs.Prelude.{◌≡◌, ◌≢◌, ◌+◌, ◌^◌, ◌<◌, ◌≤◌, false, [], IfOk, IfSome, IfNone};
 
 use crate::lock::{DRAWN, Turnstile};
 use crate::pass::Pass;
@@ -20,7 +20,6 @@ impl<V: Recorded + Drop> Turnstile<V> {
     ghost use Rattle.turnstile.specs.Names.{table_of, first_of};
     ghost use Rattle.turnstile.specs.Passes.{IsPassOf, view};
     ghost use Rattle.turnstile.specs.Views.{child, drew, missed, found_none};
-    ghost use Rattle.turnstile.specs.declared.split.SplitRefused.TheVariants.{NoneLeft, NoMemory};
 
     /// One more pass, which has seen what this one has.
     pub fn split(&self, pass: &mut Pass) -> Result<Pass, SplitRefused>
@@ -30,6 +29,7 @@ impl<V: Recorded + Drop> Turnstile<V> {
         ensures none_left { result ≡ Err NoneLeft → view pass.new ≡ found_none (view pass.old) }
         ensures no_memory { result ≡ Err NoMemory → view pass.new ≡ view pass.old }
     {
+        let seats = self.seats;
         let drawn = pass.drawn;
         let mut seat = pass.take_seat::<V>();
         let mut other = self.table.shared.split_seat::<Part>(&mut seat);
@@ -44,7 +44,7 @@ impl<V: Recorded + Drop> Turnstile<V> {
             }
             None => {
                 self.table.shared.join_seat::<Gather>(&mut seat, other);
-                pass.drawn = self.seats;
+                pass.drawn = seats;
                 pass.return_seat(seat);
                 Err(SplitRefused::NoneLeft)
             }
@@ -59,6 +59,7 @@ impl<V: Recorded + Drop> Turnstile<V> {
         ensures seat { (seat.new.table_id ≡ seat.old.table_id) × (seat.new.me.1 ≡ []) }
         ensures some { IfSome result (λ n. (seat.new.me.0 ≡ drew seat.old.me.0 n) × (drawn ≤ n) × (n < self.now.seats)) }
         ensures none { IfNone result (seat.new.me.0 ≡ missed seat.old.me.0 self.now.seats) }
+        ensures fits { IfSome result (λ n. n + 1 < 2 ^ 32) }
     {
         let seats = self.seats;
         let mut drawn = drawn;

@@ -2,7 +2,7 @@
 ghost use Rattle.std.specs.Prelude.{◌≡◌, ◌+◌, ◌<◌, ◌^◌, true, false, Some, [], ◌∷◌, length, IfOk, IfErr};
 ghost use Rattle.turnstile.specs.Names.{table_of, first_of};
 ghost use Rattle.turnstile.specs.Numbers.{Rises};
-ghost use Rattle.turnstile.specs.Views.{won, tried, fetched, shut, opened, added, left, entered};
+ghost use Rattle.turnstile.specs.Views.{won, tried, fetched, shut, opened, added, left, entered, numbers};
 ghost use Rattle.turnstile.specs.Steps.{Continues, AddsOne, IsOfAnother, HasAllIfAlone};
 
 use crate::lock::{Busy, DRAWN, ENTRIES, TURN, Turnstile, VALUE};
@@ -19,6 +19,7 @@ impl<V: Recorded + Drop> Turnstile<V> {
         ensures seat { (seat.new.table_id ≡ seat.old.table_id) × (seat.new.me.1 ≡ []) }
         ensures ok { IfOk result (λ _. seat.new.me.0 ≡ won seat.old.me.0) }
         ensures err { IfErr result (λ busy. (seat.new.me.0 ≡ tried seat.old.me.0 busy.word) × IsOfAnother seat.old.me.0 busy.word) }
+        ensures others { IfErr result (λ _. length (numbers seat.old.me.0) < seat.old.me.0.seats) }
     {
         let found = self
             .table
