@@ -1,6 +1,7 @@
 -- All passes joined into one.
-use Rattle.std.proofs.Common.{◌≡◌, ℕ, suc, ◌+◌, ◌<◌, ◌≤◌, max, Bool, true, false, List, [], ◌∷◌, ◌++◌, length, get_or, Option, Some, None, sym, refl, ap, ◌∙◌, subst, arith, length-append, append_assoc}
+use Rattle.std.proofs.Common.{◌≡◌, ℕ, zero, suc, ◌+◌, ◌<◌, ◌≤◌, max, Bool, true, false, List, [], ◌∷◌, ◌++◌, length, get_or, Option, Some, None, sym, refl, ap, ◌∙◌, subst, arith, length-append, append_assoc}
 use Rattle.std.specs.List.{All}
+use Rattle.std.specs.Option.{option_to_list}
 use Rattle.std.proofs.lemmas.List.Elements.{All-append}
 use mathlib.Core.List.{IsPrefix}
 use Rattle.atomic_table.specs.Seated.{TableId}
@@ -63,3 +64,18 @@ gathers_more passes before rest p v n is number g = let w = view p in record {
 pub sound_whole : (origin : Origin) (seats number drawn : ℕ) (v : View) (history : List Entry) → Stands origin seats number drawn v → Continues v history → Rises 0 (length v.seen) v.mine → IsSound origin seats number drawn (entered v history)
 sound_whole origin seats number drawn v history s on rises = record { spent = s.spent; origin_is = s.origin_is; seats_is = s.seats_is; number_is = s.number_is; drawn_is = s.drawn_is; few = s.few; knows = omega arith;
   rises = rises_wider 0 (length v.seen) (length history) v.mine (begins_length v.seen history on.0) rises; holds = refl; shut = refl }
+
+pub stands_at : (origin : Origin) (seats n n' d d' : ℕ) (v v' : View) → v' ≡ v → n' ≡ n → d' ≡ d → Stands origin seats n d v → Stands origin seats n' d' v'
+stands_at origin seats n n' d d' v v' same number drawn s = subst (λ (z : View × (ℕ × ℕ)). Stands origin seats z.1.0 z.1.1 z.0) (λ i. (sym same i, (sym number i, sym drawn i))) s
+
+-- the last of the passes, and those before it
+pub rest_last : (table : TableId) (origin : Origin) (seats : ℕ) (ps rest : List Pass) (o : Option Pass) (p : Pass) → ps ≡ rest ++ option_to_list o → o ≡ Some p → AllRest table origin seats ps
+    → (ps ≡ rest ++ p ∷ []) × AllRest table origin seats rest × (IsPassOf table origin seats p × ((view p).has_turn ≡ false))
+rest_last table origin seats ps rest o p popped is all =
+    let P : Pass → Type 0 = λ q. IsPassOf table origin seats q × ((view q).has_turn ≡ false) in
+    let split : ps ≡ rest ++ p ∷ [] = popped ∙ ap (λ (r : Option Pass). rest ++ option_to_list r) is in
+    let all' : All P (rest ++ p ∷ []) = subst (All P) split all in
+    (split, all_front P rest p all', all_last P rest p all')
+
+pub first_is_whole : (table : TableId) (origin : Origin) (seats : ℕ) (p : Pass) → IsPassOf table origin seats p → (view p).has_turn ≡ false → IsWholeOf table origin seats p
+first_is_whole table origin seats p is idle = (is.0, is.1, stands_of origin seats p.number p.drawn (view p) is.2 idle)

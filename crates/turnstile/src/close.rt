@@ -63,9 +63,8 @@ impl<V: Recorded + Drop> Turnstile<V> {
     {
         let mut other = other;
         let mut seat = pass.take_seat::<V>();
-        self.table
-            .shared
-            .join_seat::<Gather>(&mut seat, other.take_seat::<V>());
+        let given = other.take_seat::<V>();
+        self.table.shared.join_seat::<Gather>(&mut seat, given);
         pass.return_seat(seat);
         pass.drawn = pass.drawn.max(other.drawn);
     }
