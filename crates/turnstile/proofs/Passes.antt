@@ -1,5 +1,5 @@
 -- A pass stays a pass of its turnstile.
-use Rattle.std.proofs.Common.{Result, Ok, Err, IfOk, IfErr, get_or, ◌≡◌, ◌≢◌, ℕ, suc, ◌+◌, ◌<◌, ◌≤◌, max, Bool, true, false, List, [], ◌∷◌, ◌++◌, length, Option, Some, sym, refl, ap, ◌∙◌, subst, arith, length-append}
+use Rattle.std.proofs.Common.{cond, eqb, eq-eqb, Result, Ok, Err, IfOk, IfErr, get_or, ◌≡◌, ◌≢◌, ℕ, suc, ◌+◌, ◌<◌, ◌≤◌, max, Bool, true, false, List, [], ◌∷◌, ◌++◌, length, Option, Some, sym, refl, ap, ◌∙◌, subst, arith, length-append}
 use mathlib.Core.List.{IsPrefix, append-nil}
 use Rattle.atomic_table.specs.Seated.{TableId}
 use Rattle.kernel_values.specs.declared.entry.Entry.{Entry}
@@ -8,8 +8,8 @@ use Rattle.atomic_table.specs.declared.badge.Badge.{Badge}
 use Rattle.turnstile.specs.declared.view.View.{View}
 use Rattle.turnstile.specs.declared.lock.Busy.{Busy}
 use Rattle.turnstile.specs.declared.pass.Pass.{Pass}
-use Rattle.turnstile.specs.Numbers.{Rises, merged}
-use Rattle.turnstile.specs.Views.{first_view, given_up, counted, tried, waited, found_none, both, missed, child, longer, won, fetched, shut, entered, added, left}
+use Rattle.turnstile.specs.Numbers.{Rises, merged, times}
+use Rattle.turnstile.specs.Views.{first_view, given_up, counted, tried, waited, found_none, both, missed, child, longer, numbers, own_number, won, fetched, shut, entered, added, left}
 use Rattle.turnstile.specs.Steps.{Continues, AddsOne, IsOfAnother}
 use Rattle.turnstile.specs.Passes.{view, IsSound, IsPassOf}
 use Rattle.turnstile.proofs.Begins.{begins_length, longer_first}
@@ -70,3 +70,14 @@ pub first_pass : (table : TableId) (history : List Entry) (origin : Origin) (sea
 first_pass table history origin seats b some at views =
     let same : get_or b.views 0 given_up ≡ first_view history origin seats = ap (λ l. get_or l 0 given_up) views in
     ((at, views ∙ ap (λ v. v ∷ []) (sym same), subst (IsSound origin seats 0 1) (sym same) (sound_first history origin seats some)), same)
+
+-- the word by which a seat finds the turn held
+pub word_of_another : {T : Type 0} (begun : Origin) (seats number drawn : ℕ) (v w u : View) (r : Result T Busy) → IsSound begun seats number drawn w → v ≡ w → IfErr r (λ busy. (u ≡ tried v busy.word) × IsOfAnother v busy.word)
+    → IfErr r (λ busy. (busy.word ≢ 0) × (busy.word ≢ number + 1))
+word_of_another begun seats number drawn v w u (Ok value) s is err = tt
+word_of_another begun seats number drawn v w u (Err busy) s is err =
+    let other = err.1 in let n = other.0 in
+    let own : v.number ≡ Some number = ap (λ (x : View). x.number) is ∙ s.number_is in
+    ((λ e. let k = other.1 in omega arith), (λ e. let k = other.1 in let same : n ≡ number = omega arith in
+      let one : ℕ = cond (eqb number n) 1 0 in let is_one : one ≡ 1 = ap (λ b. cond b 1 0) (eq-eqb number n (sym same)) in
+      let here : times n (numbers v) ≡ one + times n v.joined = ap (λ (o : Option ℕ). times n (own_number o ++ v.joined)) own in let none = other.3 in absurd (omega arith)))

@@ -6,3 +6,4 @@ pub mod Steps
 pub mod Passes
 pub mod Names
 pub mod Closing
+pub mod Splitting

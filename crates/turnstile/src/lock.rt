@@ -1,5 +1,5 @@
 //! The lock.
-ghost use Rattle.std.specs.Prelude.{◌≡◌, ◌<◌, ◌≤◌, ◌^◌, true, false, IfOk, IfErr, Some, [], ◌∷◌, length};
+ghost use Rattle.std.specs.Prelude.{◌≡◌, ◌≢◌, ◌+◌, ◌<◌, ◌≤◌, ◌^◌, true, false, IfOk, IfErr, Some, [], ◌∷◌, length};
 
 use crate::pass::Pass;
 use crate::rule::{Count, InTurn, Opening};
@@ -85,6 +85,7 @@ impl<V: Recorded + Drop> Turnstile<V> {
         ensures pass { IsPassOf (table_of self.now) (V.origin (first_of self.now)) self.now.seats pass.new }
         ensures ok { IfOk result (λ value. (view pass.new ≡ entered (view pass.old) (V.history value)) × Continues (view pass.old) (V.history value) × (V.origin value ≡ V.origin (first_of self.now))) }
         ensures busy { IfErr result (λ busy. (view pass.new ≡ tried (view pass.old) busy.word) × IsOfAnother (view pass.old) busy.word) }
+        ensures word { IfErr result (λ busy. (busy.word ≢ 0) × (busy.word ≢ pass.old.number + 1)) }
     {
         let number = pass.number;
         let mut seat = pass.take_seat::<V>();

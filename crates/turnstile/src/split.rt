@@ -1,5 +1,5 @@
 //! Further passes.
-ghost use Rattle.std.specs.Prelude.{◌≡◌, ◌≢◌, ◌+◌, ◌^◌, ◌<◌, ◌≤◌, false, [], IfOk, IfSome, IfNone};
+ghost use Rattle.std.specs.Prelude.{◌≡◌, ◌≢◌, ◌+◌, ◌^◌, ◌<◌, ◌≤◌, false, [], IfOk, IfErr, IfSome, IfNone};
 
 use crate::lock::{DRAWN, Turnstile};
 use crate::pass::Pass;
@@ -19,15 +19,15 @@ pub enum SplitRefused {
 impl<V: Recorded + Drop> Turnstile<V> {
     ghost use Rattle.turnstile.specs.Names.{table_of, first_of};
     ghost use Rattle.turnstile.specs.Passes.{IsPassOf, view};
-    ghost use Rattle.turnstile.specs.Views.{child, drew, missed, found_none};
+    ghost use Rattle.turnstile.specs.Views.{child, drew, missed};
+    ghost use Rattle.turnstile.specs.Splitting.{Refuses};
 
     /// One more pass, which has seen what this one has.
     pub fn split(&self, pass: &mut Pass) -> Result<Pass, SplitRefused>
         requires { IsPassOf (table_of self.now) (V.origin (first_of self.now)) self.now.seats pass.old }
         ensures pass { IsPassOf (table_of self.now) (V.origin (first_of self.now)) self.now.seats pass.new }
         ensures ok { IfOk result (λ other. IsPassOf (table_of self.now) (V.origin (first_of self.now)) self.now.seats other × (view other ≡ drew (child (view pass.old)) other.number) × ((view pass.old).drawn ≤ other.number) × (other.number < self.now.seats) × (view pass.new ≡ view pass.old)) }
-        ensures none_left { result ≡ Err NoneLeft → view pass.new ≡ found_none (view pass.old) }
-        ensures no_memory { result ≡ Err NoMemory → view pass.new ≡ view pass.old }
+        ensures refused { IfErr result (λ why. Refuses why (view pass.old) (view pass.new)) }
     {
         let seats = self.seats;
         let drawn = pass.drawn;

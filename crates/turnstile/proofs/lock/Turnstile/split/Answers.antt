@@ -40,8 +40,8 @@ returns-in-None-clause-pass g c =
     is_pass _ _ _ p.number c.args.self.now.seats q (found_none (view p)) (c.return_seat-in-None.ensures.seat.0 ∙ (c.join_seat.ensures.0 ∙ (c.split_seat-other.ensures.0 ∙ (c.take_seat-seat.ensures.seat.0 ∙ c.requires.0))))
       c.return_seat-in-None.ensures.seat.1 same (c.return_seat-in-None.ensures.rest.0 ∙ c.take_seat-seat.ensures.rest.0) c.return_seat-in-None.ensures.rest.1 (sound_found_none _ _ _ _ (view p) c.requires.2)
 
-pub returns-in-None-clause-none_left : goal.returns-in-None-clause-none_left
-returns-in-None-clause-none_left g c _ =
+pub returns-in-None-clause-refused : goal.returns-in-None-clause-refused
+returns-in-None-clause-refused g c =
     let p = c.args.pass.now in let q = c.return_seat-in-None.new.self in let v = c.split_seat-other.new.seat.me.0 in let w = c.draw.new.seat.me.0 in
     let was : v ≡ view p = ap (λ (m : Sat g.row.V.Denot). m.0) c.split_seat-other.ensures.2 ∙ ap (λ (m : Sat g.row.V.Denot). m.0) c.take_seat-seat.ensures.seat.1 in
     let new : w ≡ missed (child (view p)) c.args.self.now.seats = c.in-None.ensures.none ∙ (ap (λ (m : Sat g.row.V.Denot). missed m.0 c.args.self.now.seats) c.split_seat-other.ensures.4 ∙ ap (λ (m : Sat g.row.V.Denot). missed (child m.0) c.args.self.now.seats) c.take_seat-seat.ensures.seat.1) in
