@@ -41,9 +41,9 @@ beyond x y e = grind arith
 
 pub longer_length : (a b : List Entry) → (length a ≤ length (longer a b)) × (length b ≤ length (longer a b))
 longer_length a b = let go : (t : Bool) → leb (length b) (length a) ≡ t → (length a ≤ length (cond t a b)) × (length b ≤ length (cond t a b)) = elim [
-    true ↦ (λ e. (omega arith, within (length b) (length a) e))
-    | false ↦ (λ e. (beyond (length b) (length a) e, omega arith))
-  ] in go (leb (length b) (length a)) refl
+  | true ↦ (λ e. (omega arith, within (length b) (length a) e))
+  | false ↦ (λ e. (beyond (length b) (length a) e, omega arith))
+] in go (leb (length b) (length a)) refl
 
 is_within : (x y : ℕ) → x ≤ y → leb x y ≡ true
 is_within x y h = grind arith

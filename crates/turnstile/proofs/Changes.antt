@@ -73,16 +73,16 @@ module _ {T : Type 0} (history : T → List Entry) (origin : T → Origin) (abou
       → Allows (Kept history origin about) slots id (v, carried) i f then
   allows_out slots id v carried opens i f then has loaded is_open go = allows slots id (v, carried) i f then
       (λ log turn given views.
-        let P : Turn T → Type 0 = λ t. Good history origin about log t given views → get_elem? views id ≡ some v → Goes id (v, carried) i f then (words_at log t given) (slot_of t ∷ []) views in
-        let go' : (t : Turn T) → P t = elim [
-          free x ↦ (λ g at. absurd (is_not v.has_turn has (g.each id v at).turns.0))
-          | taken id' n x ↦ (λ g at. absurd (dite (ℕ_discrete id id') (λ e. is_not v.loaded loaded ((g.each id v at).turns.0 e).1) (λ ne. is_not v.has_turn has ((g.each id v at).turns.1 ne).0)))
-          | out opens' id' n ↦ (λ g at. dite (ℕ_discrete id id')
+      let P : Turn T → Type 0 = λ t. Good history origin about log t given views → get_elem? views id ≡ some v → Goes id (v, carried) i f then (words_at log t given) (slot_of t ∷ []) views in
+      let go' : (t : Turn T) → P t = elim [
+        | free x ↦ (λ g at. absurd (is_not v.has_turn has (g.each id v at).turns.0))
+        | taken id' n x ↦ (λ g at. absurd (dite (ℕ_discrete id id') (λ e. is_not v.loaded loaded ((g.each id v at).turns.0 e).1) (λ ne. is_not v.has_turn has ((g.each id v at).turns.1 ne).0)))
+        | out opens' id' n ↦ (λ g at. dite (ℕ_discrete id id')
             (λ e. let w = (g.each id v at).turns.0 e in
-              let R : (List Entry × Bool) × ℕ → Type 0 = λ z. Good history origin about z.0.0 (out z.0.1 z.1 n) given views → Goes id (v, carried) i f then (length z.0.0 ∷ (n + 1) ∷ given ∷ []) (slot_out z.0.1 ∷ []) views in
-              subst R (λ t. ((w.4 t, (sym is_open ∙ w.2) t), e t)) (λ g'. go n given views g' at w.3) g)
+            let R : (List Entry × Bool) × ℕ → Type 0 = λ z. Good history origin about z.0.0 (out z.0.1 z.1 n) given views → Goes id (v, carried) i f then (length z.0.0 ∷ (n + 1) ∷ given ∷ []) (slot_out z.0.1 ∷ []) views in
+            subst R (λ t. ((w.4 t, (sym is_open ∙ w.2) t), e t)) (λ g'. go n given views g' at w.3) g)
             (λ ne. absurd (is_not v.has_turn has ((g.each id v at).turns.1 ne).0)))
-        ] in go' turn)
+      ] in go' turn)
 
   -- the same where it has the turn and the value is still in the slot
   pub allows_taken : (slots id : ℕ) (v : View) (carried : List (ℕ × Option T)) (i : ℕ) (f : ℕ → ℕ) (then : ℕ → Sat T → Type 0) → v.has_turn ≡ true → v.loaded ≡ false
@@ -90,13 +90,13 @@ module _ {T : Type 0} (history : T → List Entry) (origin : T → Origin) (abou
       → Allows (Kept history origin about) slots id (v, carried) i f then
   allows_taken slots id v carried i f then has fresh go = allows slots id (v, carried) i f then
       (λ log turn given views.
-        let P : Turn T → Type 0 = λ t. Good history origin about log t given views → get_elem? views id ≡ some v → Goes id (v, carried) i f then (words_at log t given) (slot_of t ∷ []) views in
-        let go' : (t : Turn T) → P t = elim [
-          free x ↦ (λ g at. absurd (is_not v.has_turn has (g.each id v at).turns.0))
-          | taken id' n x ↦ (λ g at. dite (ℕ_discrete id id')
+      let P : Turn T → Type 0 = λ t. Good history origin about log t given views → get_elem? views id ≡ some v → Goes id (v, carried) i f then (words_at log t given) (slot_of t ∷ []) views in
+      let go' : (t : Turn T) → P t = elim [
+        | free x ↦ (λ g at. absurd (is_not v.has_turn has (g.each id v at).turns.0))
+        | taken id' n x ↦ (λ g at. dite (ℕ_discrete id id')
             (λ e. let w = (g.each id v at).turns.0 e in
-              let R : ℕ → Type 0 = λ z. Good history origin about log (taken z n x) given views → Goes id (v, carried) i f then (length log ∷ (n + 1) ∷ given ∷ []) (some (Some x) ∷ []) views in
-              subst R e (λ g'. go log x n given views g' at w) g)
+            let R : ℕ → Type 0 = λ z. Good history origin about log (taken z n x) given views → Goes id (v, carried) i f then (length log ∷ (n + 1) ∷ given ∷ []) (some (Some x) ∷ []) views in
+            subst R e (λ g'. go log x n given views g' at w) g)
             (λ ne. absurd (is_not v.has_turn has ((g.each id v at).turns.1 ne).0)))
-          | out opens' id' n ↦ (λ g at. absurd (dite (ℕ_discrete id id') (λ e. is_not v.loaded ((g.each id v at).turns.0 e).1 fresh) (λ ne. is_not v.has_turn has ((g.each id v at).turns.1 ne).0)))
-        ] in go' turn)
+        | out opens' id' n ↦ (λ g at. absurd (dite (ℕ_discrete id id') (λ e. is_not v.loaded ((g.each id v at).turns.0 e).1 fresh) (λ ne. is_not v.has_turn has ((g.each id v at).turns.1 ne).0)))
+      ] in go' turn)

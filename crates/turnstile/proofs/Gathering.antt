@@ -53,17 +53,27 @@ pub gathers_more : (passes before rest : List Pass) (p : Pass) (v : View) (n : �
 gathers_more passes before rest p v n is number g = let w = view p in record {
   places = λ k. let a = g.places k in let b : owners k before ≡ owners k rest + times k w.mine = ap (owners k) is ∙ total_more (λ (q : Pass). times k (view q).mine) rest p in let c = times_merged k v.mine w.mine in omega arith;
   many = (let one = one_number w n number in let len : length before ≡ length (rest ++ p ∷ []) = ap (λ (l : List Pass). length l) is in let more = length-append rest (p ∷ []) in let many = g.many in
-    let all : length (numbers (both v w)) ≡ length (own_number v.number) + length (v.joined ++ numbers w) = length-append (own_number v.number) (v.joined ++ numbers w) in let joined = length-append v.joined (numbers w) in
-    let own : length (numbers v) ≡ length (own_number v.number) + length v.joined = length-append (own_number v.number) v.joined in omega arith);
+      let all : length (numbers (both v w)) ≡ length (own_number v.number) + length (v.joined ++ numbers w) = length-append (own_number v.number) (v.joined ++ numbers w) in let joined = length-append v.joined (numbers w) in
+      let own : length (numbers v) ≡ length (own_number v.number) + length v.joined = length-append (own_number v.number) v.joined in omega arith);
   saw = λ history seen olds all. let after = all_after v.olds (v.seen ∷ w.seen ∷ w.olds) history olds in
-    g.saw history after.0 (all_before v.olds (v.seen ∷ w.seen ∷ w.olds) history olds)
+      g.saw history after.0 (all_before v.olds (v.seen ∷ w.seen ∷ w.olds) history olds)
       (subst (λ ps. AllSaw ps history) (sym is) (All-append (λ (q : Pass). IsPrefix (view q).seen history) rest (p ∷ []) all (all_one (λ (q : Pass). IsPrefix (view q).seen history) p after.1.0)));
 }
 
 -- the pass that all were joined into, once it has the value
 pub sound_whole : (origin : Origin) (seats number drawn : ℕ) (v : View) (history : List Entry) → Stands origin seats number drawn v → Continues v history → Rises 0 (length v.seen) v.mine → IsSound origin seats number drawn (entered v history)
-sound_whole origin seats number drawn v history s on rises = record { spent = s.spent; origin_is = s.origin_is; seats_is = s.seats_is; number_is = s.number_is; drawn_is = s.drawn_is; few = s.few; knows = omega arith;
-  rises = rises_wider 0 (length v.seen) (length history) v.mine (begins_length v.seen history on.0) rises; holds = refl; shut = refl }
+sound_whole origin seats number drawn v history s on rises = record {
+  spent = s.spent;
+  origin_is = s.origin_is;
+  seats_is = s.seats_is;
+  number_is = s.number_is;
+  drawn_is = s.drawn_is;
+  few = s.few;
+  knows = omega arith;
+  rises = rises_wider 0 (length v.seen) (length history) v.mine (begins_length v.seen history on.0) rises;
+  holds = refl;
+  shut = refl;
+}
 
 pub stands_at : (origin : Origin) (seats n n' d d' : ℕ) (v v' : View) → v' ≡ v → n' ≡ n → d' ≡ d → Stands origin seats n d v → Stands origin seats n' d' v'
 stands_at origin seats n n' d d' v v' same number drawn s = subst (λ (z : View × (ℕ × ℕ)). Stands origin seats z.1.0 z.1.1 z.0) (λ i. (sym same i, (sym number i, sym drawn i))) s

@@ -37,9 +37,16 @@ module _ {T : Type 0} (history : T → List Entry) (origin : T → Origin) (abou
         shut v,
         gives,
         tt,
-        record { log = v.seen; turn = out false id n; given = given; words = refl; homes = refl; good = changes history origin about v.seen v.seen (out true id n) (out false id n) given given views id v (shut v) g at tt (shut v, placed_at views id v (shut v) at) g.few
-            record { born = f.born; seen = f.seen; olds = f.olds; knows = f.knows; known = f.known; mine = f.mine; drawn = f.drawn; turns = ((λ _. (has, loaded, refl, num, refl)), λ ne. absurd (ne refl)); fresh = f.fresh }
-            (λ j u ne o. stays about v.seen v.seen (out true id n) (out false id n) given given j u o (same_begins v.seen v.seen refl) (omega arith) ((λ e. absurd (ne e)), λ _. o.turns.1 ne)) (λ k. refl) (λ k. refl) },
+        record {
+          log = v.seen;
+          turn = out false id n;
+          given = given;
+          words = refl;
+          homes = refl;
+          good = changes history origin about v.seen v.seen (out true id n) (out false id n) given given views id v (shut v) g at tt (shut v, placed_at views id v (shut v) at) g.few
+              record { born = f.born; seen = f.seen; olds = f.olds; knows = f.knows; known = f.known; mine = f.mine; drawn = f.drawn; turns = ((λ _. (has, loaded, refl, num, refl)), λ ne. absurd (ne refl)); fresh = f.fresh }
+              (λ j u ne o. stays about v.seen v.seen (out true id n) (out false id n) given given j u o (same_begins v.seen v.seen refl) (omega arith) ((λ e. absurd (ne e)), λ _. o.turns.1 ne)) (λ k. refl) (λ k. refl);
+        },
         (refl, refl),
       ))
 
@@ -49,9 +56,16 @@ module _ {T : Type 0} (history : T → List Entry) (origin : T → Origin) (abou
         opened v,
         takes 0 None,
         refl,
-        record { log = v.seen; turn = out true id n; given = given; words = refl; homes = refl; good = changes history origin about v.seen v.seen (out false id n) (out true id n) given given views id v (opened v) g at tt (opened v, placed_at views id v (opened v) at) g.few
-            record { born = f.born; seen = f.seen; olds = f.olds; knows = f.knows; known = f.known; mine = f.mine; drawn = f.drawn; turns = ((λ _. (has, loaded, refl, num, refl)), λ ne. absurd (ne refl)); fresh = f.fresh }
-            (λ j u ne o. stays about v.seen v.seen (out false id n) (out true id n) given given j u o (same_begins v.seen v.seen refl) (omega arith) ((λ e. absurd (ne e)), λ _. o.turns.1 ne)) (λ k. refl) (λ k. refl) },
+        record {
+          log = v.seen;
+          turn = out true id n;
+          given = given;
+          words = refl;
+          homes = refl;
+          good = changes history origin about v.seen v.seen (out false id n) (out true id n) given given views id v (opened v) g at tt (opened v, placed_at views id v (opened v) at) g.few
+              record { born = f.born; seen = f.seen; olds = f.olds; knows = f.knows; known = f.known; mine = f.mine; drawn = f.drawn; turns = ((λ _. (has, loaded, refl, num, refl)), λ ne. absurd (ne refl)); fresh = f.fresh }
+              (λ j u ne o. stays about v.seen v.seen (out false id n) (out true id n) given given j u o (same_begins v.seen v.seen refl) (omega arith) ((λ e. absurd (ne e)), λ _. o.turns.1 ne)) (λ k. refl) (λ k. refl);
+        },
         (refl, refl),
       ))
 
@@ -59,22 +73,38 @@ module _ {T : Type 0} (history : T → List Entry) (origin : T → Origin) (abou
       → Allows Rule slots id (v, only x) 0 (λ n. (n + 1) % 2 ^ 64) (Adds history (step slots 0 1 0 none) (v, only x))
   adds_at slots id v x has loaded is_open one_more room = allows_out history origin about slots id v (only x) true 0 (λ n. (n + 1) % 2 ^ 64) (Adds history (step slots 0 1 0 none) (v, only x)) has loaded is_open
       (λ n given views g at num.
-        let f = g.each id v at in let log = history x in let w = added v log in
-        let len : length log ≡ suc (length v.seen) = ap (λ (l : List Entry). length l) one_more.1 ∙ (let a = length-append v.seen (one_more.0 ∷ []) in omega arith) in
-        let on : IsPrefix v.seen log = (one_more.0 ∷ [], sym one_more.1) in (
-          w,
-          keeps,
-          tt,
-          record { log = log; turn = out true id n; given = given; words = ap (λ m. m ∷ (n + 1) ∷ given ∷ []) (omega arith); homes = refl; good = changes history origin about v.seen log (out true id n) (out true id n) given given views id v w g at tt (w, placed_at views id v w at) g.few
-              record { born = f.born; seen = same_begins log log refl; olds = all_on v.olds v.seen log f.olds on; knows = omega arith; known = omega arith; mine = subst (λ m. Rises 0 m w.mine) (sym len) (rises_more 0 (length v.seen) v.mine (omega arith) f.mine); drawn = f.drawn;
-                turns = ((λ _. (has, loaded, is_open, num, refl)), λ ne. absurd (ne refl)); fresh = λ none'. absurd (Rattle.turnstile.proofs.Turning.not_none v.number n num none') }
+      let f = g.each id v at in let log = history x in let w = added v log in
+      let len : length log ≡ suc (length v.seen) = ap (λ (l : List Entry). length l) one_more.1 ∙ (let a = length-append v.seen (one_more.0 ∷ []) in omega arith) in
+      let on : IsPrefix v.seen log = (one_more.0 ∷ [], sym one_more.1) in (
+        w,
+        keeps,
+        tt,
+        record {
+          log = log;
+          turn = out true id n;
+          given = given;
+          words = ap (λ m. m ∷ (n + 1) ∷ given ∷ []) (omega arith);
+          homes = refl;
+          good = changes history origin about v.seen log (out true id n) (out true id n) given given views id v w g at tt (w, placed_at views id v w at) g.few
+              record {
+                born = f.born;
+                seen = same_begins log log refl;
+                olds = all_on v.olds v.seen log f.olds on;
+                knows = omega arith;
+                known = omega arith;
+                mine = subst (λ m. Rises 0 m w.mine) (sym len) (rises_more 0 (length v.seen) v.mine (omega arith) f.mine);
+                drawn = f.drawn;
+                turns = ((λ _. (has, loaded, is_open, num, refl)), λ ne. absurd (ne refl));
+                fresh = λ none'. absurd (Rattle.turnstile.proofs.Turning.not_none v.number n num none');
+              }
               (λ j u ne o. stays about v.seen log (out true id n) (out true id n) given given j u o on (omega arith) ((λ e. absurd (ne e)), λ _. o.turns.1 ne))
               (λ k. let one : ℕ = cond (eqb (length v.seen) k) 1 0 in let a : times k (v.mine ++ length v.seen ∷ []) ≡ times k v.mine + (one + 0) = times_append k v.mine (length v.seen ∷ []) in
-                let b : once_below k (length log) ≡ once_below k (length v.seen) + one = ap (once_below k) len ∙ once_more k (length v.seen) in
-                let goal : times k (v.mine ++ length v.seen ∷ []) + once_below k (length v.seen) ≡ times k v.mine + once_below k (length log) = omega arith in goal)
-              (λ k. refl) },
-          (λ y e. (refl, ap (λ z. added v (history z)) (held_is x y e))),
-        ))
+              let b : once_below k (length log) ≡ once_below k (length v.seen) + one = ap (once_below k) len ∙ once_more k (length v.seen) in
+              let goal : times k (v.mine ++ length v.seen ∷ []) + once_below k (length v.seen) ≡ times k v.mine + once_below k (length log) = omega arith in goal)
+              (λ k. refl);
+        },
+        (λ y e. (refl, ap (λ z. added v (history z)) (held_is x y e))),
+      ))
 
   leaves_at : (slots id : ℕ) (v : View) (x : T) → v.has_turn ≡ true → v.loaded ≡ true → v.opens ≡ true → v.spent ≡ false → history x ≡ v.seen → origin x ≡ v.origin
       → Allows Rule slots id (v, only x) 1 (λ _. 0) (Leaves (step slots 1 0 0 none) (v, only x))
@@ -83,9 +113,16 @@ module _ {T : Type 0} (history : T → List Entry) (origin : T → Origin) (abou
         left v,
         gives,
         tt,
-        record { log = v.seen; turn = free x; given = given; words = refl; homes = refl; good = changes history origin about v.seen v.seen (out true id n) (free x) given given views id v (left v) g at (same, born ∙ (f.born live).0) tt g.few
-            record { born = f.born; seen = f.seen; olds = f.olds; knows = f.knows; known = f.known; mine = f.mine; drawn = f.drawn; turns = (refl, refl, refl); fresh = λ none'. absurd (Rattle.turnstile.proofs.Turning.not_none v.number n num none') }
-            (λ j u ne o. stays about v.seen v.seen (out true id n) (free x) given given j u o (same_begins v.seen v.seen refl) (omega arith) (o.turns.1 ne)) (λ k. refl) (λ k. refl) },
+        record {
+          log = v.seen;
+          turn = free x;
+          given = given;
+          words = refl;
+          homes = refl;
+          good = changes history origin about v.seen v.seen (out true id n) (free x) given given views id v (left v) g at (same, born ∙ (f.born live).0) tt g.few
+              record { born = f.born; seen = f.seen; olds = f.olds; knows = f.knows; known = f.known; mine = f.mine; drawn = f.drawn; turns = (refl, refl, refl); fresh = λ none'. absurd (Rattle.turnstile.proofs.Turning.not_none v.number n num none') }
+              (λ j u ne o. stays about v.seen v.seen (out true id n) (free x) given given j u o (same_begins v.seen v.seen refl) (omega arith) (o.turns.1 ne)) (λ k. refl) (λ k. refl);
+        },
         (refl, refl),
       ))
 

@@ -34,7 +34,7 @@ module _ {T : Type 0} (history : T → List Entry) (origin : T → Origin) (abou
   child_turns log turn given views v u j g at is =
       let P : Turn T → Type 0 = λ t. Good history origin about log t given views → Turns t log j (child v) in
       let go : (t : Turn T) → P t = elim [
-        free x ↦ (λ g. (refl, refl, refl))
+        | free x ↦ (λ g. (refl, refl, refl))
         | taken id n x ↦ (λ g. ((λ e. absurd (not_holder views v g.there.0 u id j g.there.1 ((g.each id g.there.0 g.there.1).turns.0 refl).0 at is e)), λ _. (refl, refl, refl)))
         | out opens id n ↦ (λ g. ((λ e. absurd (not_holder views v g.there.0 u id j g.there.1 ((g.each id g.there.0 g.there.1).turns.0 refl).0 at is e)), λ _. (refl, refl, refl)))
       ] in go turn g
@@ -111,18 +111,18 @@ module _ {T : Type 0} (history : T → List Entry) (origin : T → Origin) (abou
   joined log turn given views id other n v w g at ne at' num idle =
       let there : get_elem? views other ≡ some w = sym (set_else views id other (both v w) ne) ∙ at' in let fv = g.each id v at in let fw = g.each other w there in
       let apart : (k : ℕ) → times k v.mine + times k w.mine ≤ 1 = λ k. let a = total_two (λ (u : View). times k u.mine) views id other v w (λ e. ne (sym e)) at there in let b = g.places k in let c = at_most_once k (length log) in omega arith in record {
-    inside = g.inside;
-    there = joined_there turn views id other v (both v w) w at at' g.there;
-    few = g.few;
-    each = λ j u e. ⊎_elim (λ (t : (j ≡ other) × (given_up ≡ u)). subst (λ (z : ℕ × View). Fits about log turn given z.0 z.1) (λ i. (sym t.0 i, t.1 i)) (spent_fits log turn given other w idle fw))
-        (λ (t : (j ≢ other) × (get_elem? (set views id (both v w)) j ≡ some u)). ⊎_elim (λ (r : (j ≡ id) × (both v w ≡ u)). subst (λ (z : ℕ × View). Fits about log turn given z.0 z.1) (λ i. (sym r.0 i, r.1 i)) (both_fits log turn given id other n v w fv fw num apart))
-          (λ (r : (j ≢ id) × (get_elem? views j ≡ some u)). g.each j u r.1) (at_set views id j (both v w) u t.1))
-        (at_set (set views id (both v w)) other j given_up u e);
-    places = λ k. let a = total_set (λ (u : View). times k u.mine) views id v (both v w) at in let b = total_set (λ (u : View). times k u.mine) (set views id (both v w)) other w given_up at' in let c = g.places k in let d = times_merged k v.mine w.mine in omega arith;
-    names = λ k. let a = total_set (λ (u : View). times k (numbers u)) views id v (both v w) at in let b = total_set (λ (u : View). times k (numbers u)) (set views id (both v w)) other w given_up at' in let c = g.names k in
-        let d : times k (numbers (both v w)) ≡ times k (own_number v.number) + times k (v.joined ++ numbers w) = times_append k (own_number v.number) (v.joined ++ numbers w) in let e = times_append k v.joined (numbers w) in
-        let f : times k (numbers v) ≡ times k (own_number v.number) + times k v.joined = times_append k (own_number v.number) v.joined in omega arith;
-  }
+        inside = g.inside;
+        there = joined_there turn views id other v (both v w) w at at' g.there;
+        few = g.few;
+        each = λ j u e. ⊎_elim (λ (t : (j ≡ other) × (given_up ≡ u)). subst (λ (z : ℕ × View). Fits about log turn given z.0 z.1) (λ i. (sym t.0 i, t.1 i)) (spent_fits log turn given other w idle fw))
+            (λ (t : (j ≢ other) × (get_elem? (set views id (both v w)) j ≡ some u)). ⊎_elim (λ (r : (j ≡ id) × (both v w ≡ u)). subst (λ (z : ℕ × View). Fits about log turn given z.0 z.1) (λ i. (sym r.0 i, r.1 i)) (both_fits log turn given id other n v w fv fw num apart))
+            (λ (r : (j ≢ id) × (get_elem? views j ≡ some u)). g.each j u r.1) (at_set views id j (both v w) u t.1))
+            (at_set (set views id (both v w)) other j given_up u e);
+        places = λ k. let a = total_set (λ (u : View). times k u.mine) views id v (both v w) at in let b = total_set (λ (u : View). times k u.mine) (set views id (both v w)) other w given_up at' in let c = g.places k in let d = times_merged k v.mine w.mine in omega arith;
+        names = λ k. let a = total_set (λ (u : View). times k (numbers u)) views id v (both v w) at in let b = total_set (λ (u : View). times k (numbers u)) (set views id (both v w)) other w given_up at' in let c = g.names k in
+            let d : times k (numbers (both v w)) ≡ times k (own_number v.number) + times k (v.joined ++ numbers w) = times_append k (own_number v.number) (v.joined ++ numbers w) in let e = times_append k v.joined (numbers w) in
+            let f : times k (numbers v) ≡ times k (own_number v.number) + times k v.joined = times_append k (own_number v.number) v.joined in omega arith;
+      }
 
   -- A seat taken in by another.
   pub gathers : (id other n : ℕ) (v w : View) → v.number ≡ Some n → w.has_turn ≡ false → Joins (Kept history origin about) id v other w (both v w) given_up

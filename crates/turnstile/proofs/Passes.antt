@@ -36,16 +36,36 @@ module _ (origin : Origin) (seats number drawn : ℕ) (v : View) (s : IsSound or
       λ i. record v { seen = seen i; known = known i; mine = mine i; drawn = drawn' i; joined = joined i; olds = v.olds ++ (v.seen ∷ v.seen ∷ []) }
 
   pub sound_entered : (history : List Entry) → Continues v history → IsSound origin seats number drawn (entered v history)
-  sound_entered history on = record { spent = s.spent; origin_is = s.origin_is; seats_is = s.seats_is; number_is = s.number_is; drawn_is = s.drawn_is; few = s.few; knows = omega arith;
-    rises = rises_wider 0 (length v.seen) (length history) v.mine (begins_length v.seen history on.0) s.rises; holds = refl; shut = refl }
+  sound_entered history on = record {
+    spent = s.spent;
+    origin_is = s.origin_is;
+    seats_is = s.seats_is;
+    number_is = s.number_is;
+    drawn_is = s.drawn_is;
+    few = s.few;
+    knows = omega arith;
+    rises = rises_wider 0 (length v.seen) (length history) v.mine (begins_length v.seen history on.0) s.rises;
+    holds = refl;
+    shut = refl;
+  }
 
   pub sound_left : IsSound origin seats number drawn (left v)
   sound_left = record { spent = s.spent; origin_is = s.origin_is; seats_is = s.seats_is; number_is = s.number_is; drawn_is = s.drawn_is; few = s.few; knows = s.knows; rises = s.rises; holds = refl; shut = refl }
 
   pub sound_added : (history : List Entry) → AddsOne v.seen history → IsSound origin seats number drawn (added v history)
   sound_added history one = let len : length history ≡ suc (length v.seen) = ap (λ (l : List Entry). length l) one.1 ∙ (let a = length-append v.seen (one.0 ∷ []) in omega arith) in
-    record { spent = s.spent; origin_is = s.origin_is; seats_is = s.seats_is; number_is = s.number_is; drawn_is = s.drawn_is; few = s.few; knows = omega arith;
-      rises = subst (λ m. Rises 0 m (v.mine ++ length v.seen ∷ [])) (sym len) (rises_more 0 (length v.seen) v.mine (omega arith) s.rises); holds = s.holds; shut = s.shut }
+      record {
+        spent = s.spent;
+        origin_is = s.origin_is;
+        seats_is = s.seats_is;
+        number_is = s.number_is;
+        drawn_is = s.drawn_is;
+        few = s.few;
+        knows = omega arith;
+        rises = subst (λ m. Rises 0 m (v.mine ++ length v.seen ∷ [])) (sym len) (rises_more 0 (length v.seen) v.mine (omega arith) s.rises);
+        holds = s.holds;
+        shut = s.shut;
+      }
 
 -- a pass from its parts
 pub is_pass : (table : TableId) (origin : Origin) (seats number drawn : ℕ) (q : Pass) (w : View) → q.badge.table_id ≡ table → q.badge.views ≡ view q ∷ [] → view q ≡ w → q.number ≡ number → q.drawn ≡ drawn → IsSound origin seats number drawn w → IsPassOf table origin seats q
@@ -77,7 +97,9 @@ pub word_of_another : {T : Type 0} (begun : Origin) (seats number drawn : ℕ) (
 word_of_another begun seats number drawn v w u (Ok value) s is err = tt
 word_of_another begun seats number drawn v w u (Err busy) s is err =
     let other = err.1 in let n = other.0 in
-    let own : v.number ≡ Some number = ap (λ (x : View). x.number) is ∙ s.number_is in
-    ((λ e. let k = other.1 in omega arith), (λ e. let k = other.1 in let same : n ≡ number = omega arith in
-      let one : ℕ = cond (eqb number n) 1 0 in let is_one : one ≡ 1 = ap (λ b. cond b 1 0) (eq-eqb number n (sym same)) in
-      let here : times n (numbers v) ≡ one + times n v.joined = ap (λ (o : Option ℕ). times n (own_number o ++ v.joined)) own in let none = other.3 in absurd (omega arith)))
+    let own : v.number ≡ Some number = ap (λ (x : View). x.number) is ∙ s.number_is in (
+      (λ e. let k = other.1 in omega arith),
+      (λ e. let k = other.1 in let same : n ≡ number = omega arith in
+          let one : ℕ = cond (eqb number n) 1 0 in let is_one : one ≡ 1 = ap (λ b. cond b 1 0) (eq-eqb number n (sym same)) in
+          let here : times n (numbers v) ≡ one + times n v.joined = ap (λ (o : Option ℕ). times n (own_number o ++ v.joined)) own in let none = other.3 in absurd (omega arith)),
+    )

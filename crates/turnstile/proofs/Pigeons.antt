@@ -18,7 +18,7 @@ summed_one : (x n : ℕ) → summed (λ k. cond (eqb x k) 1 0) n ≡ once_below 
 summed_one x zero = sym (not_below x 0 (omega arith))
 summed_one x (suc n) = let rest = summed_one x n in let one : ℕ = cond (eqb x n) 1 0 in let other : ℕ = cond (eqb n x) 1 0 in
     let same : one ≡ other = dite (ℕ_discrete x n) (λ e. let a : other ≡ 1 = ap (λ b. cond b 1 0) (Rattle.std.proofs.Common.eq-eqb n x (sym e)) in let b : one ≡ 1 = ap (λ b. cond b 1 0) (Rattle.std.proofs.Common.eq-eqb x n e) in omega arith)
-      (λ ne. let a : other ≡ 0 = never n x (λ e. ne (sym e)) in let b : one ≡ 0 = never x n ne in omega arith) in
+    (λ ne. let a : other ≡ 0 = never n x (λ e. ne (sym e)) in let b : one ≡ 0 = never x n ne in omega arith) in
     let step : once_below x (suc n) ≡ once_below x n + other = once_more x n in let goal : summed (λ k. cond (eqb x k) 1 0) n + one ≡ once_below x (suc n) = omega arith in goal
 
 summed_both : (x : ℕ) (xs : List ℕ) (n : ℕ) → summed (λ k. times k (x ∷ xs)) n ≡ summed (λ k. cond (eqb x k) 1 0) n + summed (λ k. times k xs) n

@@ -49,7 +49,7 @@ rises_placed low high x [] l h none r = (l, h, tt)
 rises_placed low high x (y ∷ ys) l h none r =
     dite (ℕ_discrete y x) (λ e. let one : ℕ = cond (eqb y x) 1 0 in let is : one ≡ 1 = subst (λ z. ◌≡◌ {A = ℕ} (cond (eqb y z) 1 0) 1) e (once y) in let at : one + times x ys ≡ 0 = none in absurd (omega arith))
     (λ ne. let one : ℕ = cond (eqb y x) 1 0 in let at : one + times x ys ≡ 0 = none in let rest : times x ys ≡ 0 = omega arith in
-        let go : (t : Bool) → ltb x y ≡ t → Rises low high (cond t (x ∷ y ∷ ys) (y ∷ placed x ys)) = elim [ true ↦ (λ is. (l, h, (less x y is, r.1, r.2))) | false ↦ (λ is. (r.0, r.1, rises_placed (suc y) high x ys (more x y ne is) h rest r.2)) ] in go (ltb x y) refl)
+    let go : (t : Bool) → ltb x y ≡ t → Rises low high (cond t (x ∷ y ∷ ys) (y ∷ placed x ys)) = elim [ true ↦ (λ is. (l, h, (less x y is, r.1, r.2))) | false ↦ (λ is. (r.0, r.1, rises_placed (suc y) high x ys (more x y ne is) h rest r.2)) ] in go (ltb x y) refl)
 
 -- two rising lists that share no number
 pub rises_merged : (low high : ℕ) (xs ys : List ℕ) → ((k : ℕ) → times k xs + times k ys ≤ 1) → Rises low high xs → Rises low high ys → Rises low high (merged xs ys)

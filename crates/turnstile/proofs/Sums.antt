@@ -61,7 +61,7 @@ pub once_more : (k n : ℕ) → once_below k (suc n) ≡ once_below k n + cond (
 once_more k n = dite (ℕ_discrete n k)
     (λ e. let a = is_below k (suc n) (omega arith) in let b = not_below k n (omega arith) in let one : ℕ = cond (eqb n k) 1 0 in let is : one ≡ 1 = ap (λ t. cond t 1 0) (eq-eqb n k e) in let goal : once_below k (suc n) ≡ once_below k n + one = omega arith in goal)
     (λ ne. let one : ℕ = cond (eqb n k) 1 0 in let is : one ≡ 0 = never n k ne in
-        let goal : once_below k (suc n) ≡ once_below k n + one = dite (dec_le n k) (λ h. let a = not_below k (suc n) (omega arith) in let b = not_below k n h in omega arith) (λ h. let a = is_below k (suc n) (omega arith) in let b = is_below k n (omega arith) in omega arith) in goal)
+    let goal : once_below k (suc n) ≡ once_below k n + one = dite (dec_le n k) (λ h. let a = not_below k (suc n) (omega arith) in let b = not_below k n h in omega arith) (λ h. let a = is_below k (suc n) (omega arith) in let b = is_below k n (omega arith) in omega arith) in goal)
 
 pub once_next : (k n : ℕ) → once_below k (n + 1) ≡ once_below k n + cond (eqb n k) 1 0
 once_next k n = rw add-one (once_more k n)

@@ -47,11 +47,7 @@ impl<V: Recorded + Drop> Turnstile<V> {
     ghost use Rattle.turnstile.specs.Steps.{Continues, AddsOne, IsOfAnother};
 
     /// A turnstile over the value for `seats` passes, and the first of them.
-    pub fn new(
-        alloc: Global,
-        value: V,
-        seats: u32,
-    ) -> Result<(Turnstile<V>, Pass), NewRefused<V>>
+    pub fn new(alloc: Global, value: V, seats: u32) -> Result<(Turnstile<V>, Pass), NewRefused<V>>
         requires { 0 < seats }
         ensures ok { IfOk result (λ r. (first_of r.0 ≡ value) × (r.0.seats ≡ seats)) }
         ensures pass { IfOk result (λ r. IsPassOf (table_of r.0) (V.origin value) seats r.1 × (view r.1 ≡ first_view (V.history value) (V.origin value) seats)) }

@@ -13,7 +13,11 @@ use kernel_values::Recorded;
 
 impl<V: Recorded + Drop> Turnstile<V> {
     // Tries once to take the turn, for the pass with this number.
-    pub(crate) fn take_turn(&self, seat: &mut Seat<Option<V>, View>, number: u32) -> Result<(), Busy>
+    pub(crate) fn take_turn(
+        &self,
+        seat: &mut Seat<Option<V>, View>,
+        number: u32,
+    ) -> Result<(), Busy>
         requires seat { (seat.old.table_id ≡ table_of self.now) × (seat.old.me.1 ≡ []) }
         requires view { (seat.old.me.0.number ≡ Some number) × (seat.old.me.0.has_turn ≡ false) × (seat.old.me.0.spent ≡ false) }
         ensures seat { (seat.new.table_id ≡ seat.old.table_id) × (seat.new.me.1 ≡ []) }

@@ -11,6 +11,6 @@ returns-clause-pass g c =
     let same : view q ≡ entered (waited v (view q).tries (view q).last) history = search rules in
     let on : Continues v history = search rules in
     is_pass _ _ _ p.number p.drawn q (entered (waited v (view q).tries (view q).last) history)
-      (c.return_seat.ensures.seat.0 ∙ (c.take_value-value.ensures.seat.0 ∙ (c.wait_turn.ensures.seat.0 ∙ (c.take_seat-seat.ensures.seat.0 ∙ c.requires.pass.0))))
-      c.return_seat.ensures.seat.1 same (c.return_seat.ensures.rest.0 ∙ c.take_seat-seat.ensures.rest.0) (c.return_seat.ensures.rest.1 ∙ c.take_seat-seat.ensures.rest.1)
-      (sound_entered _ _ _ _ (waited v (view q).tries (view q).last) (sound_waited _ _ _ _ v c.requires.pass.2 (view q).tries (view q).last) history on)
+    (c.return_seat.ensures.seat.0 ∙ (c.take_value-value.ensures.seat.0 ∙ (c.wait_turn.ensures.seat.0 ∙ (c.take_seat-seat.ensures.seat.0 ∙ c.requires.pass.0))))
+    c.return_seat.ensures.seat.1 same (c.return_seat.ensures.rest.0 ∙ c.take_seat-seat.ensures.rest.0) (c.return_seat.ensures.rest.1 ∙ c.take_seat-seat.ensures.rest.1)
+    (sound_entered _ _ _ _ (waited v (view q).tries (view q).last) (sound_waited _ _ _ _ v c.requires.pass.2 (view q).tries (view q).last) history on)

@@ -20,6 +20,6 @@ returns-clause-pass g c =
     let v = view c.args.pass.now in let history = g.V.Recorded.history c.args.value in
     let same : view c.return_seat.new.self ≡ left (added v history) = search rules in
     same_pass _ _ _ c.args.pass.now c.return_seat.new.self (left (added v history)) c.requires.pass
-      (c.return_seat.ensures.seat.0 ∙ (c.give_turn.ensures.seat.0 ∙ (c.add_entry.ensures.seat.0 ∙ (c.lay_value.ensures.seat ∙ (c.take_seat-seat.ensures.seat.0 ∙ c.requires.pass.0)))))
-      c.return_seat.ensures.seat.1 same (c.return_seat.ensures.rest.0 ∙ c.take_seat-seat.ensures.rest.0) (c.return_seat.ensures.rest.1 ∙ c.take_seat-seat.ensures.rest.1)
-      (sound_left _ _ _ _ (added v history) (sound_added _ _ _ _ v c.requires.pass.2 history c.requires.history))
+    (c.return_seat.ensures.seat.0 ∙ (c.give_turn.ensures.seat.0 ∙ (c.add_entry.ensures.seat.0 ∙ (c.lay_value.ensures.seat ∙ (c.take_seat-seat.ensures.seat.0 ∙ c.requires.pass.0)))))
+    c.return_seat.ensures.seat.1 same (c.return_seat.ensures.rest.0 ∙ c.take_seat-seat.ensures.rest.0) (c.return_seat.ensures.rest.1 ∙ c.take_seat-seat.ensures.rest.1)
+    (sound_left _ _ _ _ (added v history) (sound_added _ _ _ _ v c.requires.pass.2 history c.requires.history))

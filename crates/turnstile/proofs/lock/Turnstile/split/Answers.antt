@@ -9,10 +9,10 @@ use Rattle.turnstile.proofs.lock.Turnstile.split.Goals as goal
 
 pub split_seat-other-requires : goal.split_seat-other-requires
 split_seat-other-requires g c = let v = c.take_seat-seat.result.me.0 in let live : v.spent ≡ false = ap (λ (m : Sat g.row.V.Denot). m.0.spent) c.take_seat-seat.ensures.seat.1 ∙ c.requires.2.spent in (
-    c.take_seat-seat.ensures.seat.0 ∙ c.requires.0,
-    omega arith,
-    parts g.V.Recorded.history g.V.Recorded.origin _ _ v live,
-  )
+  c.take_seat-seat.ensures.seat.0 ∙ c.requires.0,
+  omega arith,
+  parts g.V.Recorded.history g.V.Recorded.origin _ _ v live,
+)
 
 pub overflow_add-result : goal.overflow_add-result
 overflow_add-result g c = let low = c.in-Some.ensures.fits in omega arith
@@ -38,7 +38,7 @@ returns-in-None-clause-pass g c =
     let new : w ≡ missed (child (view p)) c.args.self.now.seats = c.in-None.ensures.none ∙ (ap (λ (m : Sat g.row.V.Denot). missed m.0 c.args.self.now.seats) c.split_seat-other.ensures.4 ∙ ap (λ (m : Sat g.row.V.Denot). missed (child m.0) c.args.self.now.seats) c.take_seat-seat.ensures.seat.1) in
     let same : view q ≡ found_none (view p) = c.return_seat-in-None.ensures.seat.2 ∙ (ap (λ (m : Sat g.row.V.Denot). m.0) c.join_seat.ensures.2 ∙ ((λ i. both (was i) (new i)) ∙ nothing_new _ _ _ _ (view p) c.requires.2)) in
     is_pass _ _ _ p.number c.args.self.now.seats q (found_none (view p)) (c.return_seat-in-None.ensures.seat.0 ∙ (c.join_seat.ensures.0 ∙ (c.split_seat-other.ensures.0 ∙ (c.take_seat-seat.ensures.seat.0 ∙ c.requires.0))))
-      c.return_seat-in-None.ensures.seat.1 same (c.return_seat-in-None.ensures.rest.0 ∙ c.take_seat-seat.ensures.rest.0) c.return_seat-in-None.ensures.rest.1 (sound_found_none _ _ _ _ (view p) c.requires.2)
+    c.return_seat-in-None.ensures.seat.1 same (c.return_seat-in-None.ensures.rest.0 ∙ c.take_seat-seat.ensures.rest.0) c.return_seat-in-None.ensures.rest.1 (sound_found_none _ _ _ _ (view p) c.requires.2)
 
 pub returns-in-None-clause-refused : goal.returns-in-None-clause-refused
 returns-in-None-clause-refused g c =

@@ -16,5 +16,5 @@ returns-clause-pass g c =
     let on : Continues v history = subst (λ (u : View). Continues u history) won_it c.take_value-value.ensures.history in
     let rises : Rises 0 (length v.seen) v.mine = subst (λ (u : View). Rises 0 (length u.seen) u.mine) won_it c.take_value-value.ensures.rises in
     is_pass _ _ _ p.number p.drawn q (entered v history) (c.return_seat.ensures.seat.0 ∙ (c.take_value-value.ensures.seat.0 ∙ (c.take_turn.ensures.seat.0 ∙ (c.take_seat-seat.ensures.seat.0 ∙ c.requires.pass.0))))
-      c.return_seat.ensures.seat.1 same (c.return_seat.ensures.rest.0 ∙ c.take_seat-seat.ensures.rest.0) (c.return_seat.ensures.rest.1 ∙ c.take_seat-seat.ensures.rest.1)
-      (sound_whole _ _ _ _ v history c.requires.pass.2 on rises)
+    c.return_seat.ensures.seat.1 same (c.return_seat.ensures.rest.0 ∙ c.take_seat-seat.ensures.rest.0) (c.return_seat.ensures.rest.1 ∙ c.take_seat-seat.ensures.rest.1)
+    (sound_whole _ _ _ _ v history c.requires.pass.2 on rises)
