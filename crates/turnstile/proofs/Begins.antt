@@ -1,5 +1,5 @@
 -- Beginnings of a history.
-use Rattle.std.proofs.Common.{◌≡◌, ℕ, ◌+◌, ◌≤◌, leb, Bool, true, false, cond, List, [], ◌∷◌, ◌++◌, length, sym, refl, ap, ◌∙◌, subst, arith, append_assoc, length-append}
+use Rattle.std.proofs.Common.{◌≡◌, ℕ, ◌≤◌, leb, Bool, true, false, cond, List, [], ◌∷◌, ◌++◌, length, sym, refl, ap, ◌∙◌, arith, append_assoc, length-append}
 use mathlib.Core.List.{IsPrefix, append-nil}
 use Rattle.kernel_values.specs.declared.entry.Entry.{Entry}
 use Rattle.turnstile.specs.Views.{longer}

@@ -1,19 +1,19 @@
 -- One view changes and the others stay.
-use Rattle.std.proofs.Common.{◌≡◌, ◌≢◌, ℕ, ◌+◌, ◌<◌, ◌≤◌, Bool, true, false, List, [], ◌∷◌, ◌++◌, length, get_or, set, Option, Some, None, sym, refl, ap, ◌∙◌, subst, ⊎_elim, arith}
+use Rattle.std.proofs.Common.{◌≡◌, ◌≢◌, ℕ, ◌+◌, ◌≤◌, Bool, true, false, List, [], ◌∷◌, length, get_or, set, Option, Some, sym, ◌∙◌, subst, ⊎_elim, arith}
 use mathlib.Core.Option.{some, some-injective}
 use mathlib.Core.Option as maybe
 use mathlib.Core.List.{IsPrefix}
 use mathlib.Core.Logic.{dite}
 use native.Mathlib.Decide.{ℕ_discrete}
 use lib.ListN.{get_elem?}
-use Rattle.atomic_table.specs.Table.{State, Act, Valid, homes_after, carried_after, Allows}
+use Rattle.atomic_table.specs.Table.{Act, Valid, homes_after, carried_after, Allows}
 use Rattle.atomic_table.proofs.Lists.{at_set}
 use Rattle.kernel_values.specs.declared.entry.Entry.{Entry}
 use Rattle.kernel_values.specs.Origin.{Origin}
 use Rattle.turnstile.specs.declared.view.View.{View}
-use Rattle.turnstile.specs.Numbers.{times, once_below, total}
+use Rattle.turnstile.specs.Numbers.{times, once_below}
 use Rattle.turnstile.specs.Views.{numbers}
-use Rattle.turnstile.specs.Rule.{About, Turn, free, taken, out, Apart, Waits, Works, word_of, slot_of, slot_out, Turns, There, Fits, Inside, Good, Kept}
+use Rattle.turnstile.specs.Rule.{About, Turn, free, taken, out, Waits, word_of, slot_of, slot_out, Turns, There, Fits, Inside, Good, Kept}
 use Rattle.turnstile.specs.Steps.{Sat}
 use Rattle.turnstile.proofs.Begins.{begins_on, begins_length, all_on}
 use Rattle.turnstile.proofs.Sums.{total_set}

@@ -1,5 +1,5 @@
 -- All passes joined into one.
-use Rattle.std.proofs.Common.{◌≡◌, ℕ, zero, suc, ◌+◌, ◌<◌, ◌≤◌, max, Bool, true, false, List, [], ◌∷◌, ◌++◌, length, get_or, Option, Some, None, sym, refl, ap, ◌∙◌, subst, arith, length-append, append_assoc}
+use Rattle.std.proofs.Common.{◌≡◌, ℕ, zero, suc, ◌+◌, ◌<◌, max, false, List, [], ◌∷◌, ◌++◌, length, Option, Some, sym, refl, ap, ◌∙◌, subst, arith, length-append}
 use Rattle.std.specs.List.{All}
 use Rattle.std.specs.Option.{option_to_list}
 use Rattle.std.proofs.lemmas.List.Elements.{All-append}
@@ -9,12 +9,11 @@ use Rattle.kernel_values.specs.declared.entry.Entry.{Entry}
 use Rattle.kernel_values.specs.Origin.{Origin}
 use Rattle.turnstile.specs.declared.view.View.{View}
 use Rattle.turnstile.specs.declared.pass.Pass.{Pass}
-use Rattle.turnstile.specs.Numbers.{Rises, times, total, once_below}
+use Rattle.turnstile.specs.Numbers.{Rises, times}
 use Rattle.turnstile.specs.Views.{both, numbers, own_number, entered}
-use Rattle.turnstile.specs.Rule.{AllBegin}
 use Rattle.turnstile.specs.Steps.{Continues}
-use Rattle.turnstile.specs.Passes.{view, IsPassOf, IsSound}
-use Rattle.turnstile.specs.Closing.{owners, AllSaw, AllRest, HasWhole, Stands, IsWholeOf, Gathers}
+use Rattle.turnstile.specs.Passes.{view, IsPassAt, IsSound}
+use Rattle.turnstile.specs.Closing.{owners, AllSaw, Stands, IsWholeAt, Gathers}
 use Rattle.turnstile.proofs.Begins.{begins_length, all_before, all_after}
 use Rattle.turnstile.proofs.Sums.{total_more}
 use Rattle.turnstile.proofs.Rising.{rises_wider, times_merged}
@@ -79,13 +78,13 @@ pub stands_at : (origin : Origin) (seats n n' d d' : ℕ) (v v' : View) → v' �
 stands_at origin seats n n' d d' v v' same number drawn s = subst (λ (z : View × (ℕ × ℕ)). Stands origin seats z.1.0 z.1.1 z.0) (λ i. (sym same i, (sym number i, sym drawn i))) s
 
 -- the last of the passes, and those before it
-pub rest_last : (table : TableId) (origin : Origin) (seats : ℕ) (ps rest : List Pass) (o : Option Pass) (p : Pass) → ps ≡ rest ++ option_to_list o → o ≡ Some p → AllRest table origin seats ps
-    → (ps ≡ rest ++ p ∷ []) × AllRest table origin seats rest × (IsPassOf table origin seats p × ((view p).has_turn ≡ false))
+pub rest_last : (table : TableId) (origin : Origin) (seats : ℕ) (ps rest : List Pass) (o : Option Pass) (p : Pass) → ps ≡ rest ++ option_to_list o → o ≡ Some p → All (λ q. IsPassAt table origin seats q × ((view q).has_turn ≡ false)) ps
+    → (ps ≡ rest ++ p ∷ []) × All (λ q. IsPassAt table origin seats q × ((view q).has_turn ≡ false)) rest × (IsPassAt table origin seats p × ((view p).has_turn ≡ false))
 rest_last table origin seats ps rest o p popped is all =
-    let P : Pass → Type 0 = λ q. IsPassOf table origin seats q × ((view q).has_turn ≡ false) in
+    let P : Pass → Type 0 = λ q. IsPassAt table origin seats q × ((view q).has_turn ≡ false) in
     let split : ps ≡ rest ++ p ∷ [] = popped ∙ ap (λ (r : Option Pass). rest ++ option_to_list r) is in
     let all' : All P (rest ++ p ∷ []) = subst (All P) split all in
     (split, all_front P rest p all', all_last P rest p all')
 
-pub first_is_whole : (table : TableId) (origin : Origin) (seats : ℕ) (p : Pass) → IsPassOf table origin seats p → (view p).has_turn ≡ false → IsWholeOf table origin seats p
+pub first_is_whole : (table : TableId) (origin : Origin) (seats : ℕ) (p : Pass) → IsPassAt table origin seats p → (view p).has_turn ≡ false → IsWholeAt table origin seats p
 first_is_whole table origin seats p is idle = (is.0, is.1, stands_of origin seats p.number p.drawn (view p) is.2 idle)

@@ -1,15 +1,14 @@
 -- The steps of a seat that has the turn and the value.
-use Rattle.std.proofs.Common.{◌≡◌, ◌≢◌, ℕ, suc, ◌+◌, ◌%◌, ◌^◌, ◌<◌, ◌≤◌, eqb, Bool, true, false, cond, List, [], ◌∷◌, ◌++◌, length, Option, Some, None, sym, refl, ap, ◌∙◌, subst, arith, length-append, get_or, add-one}
-use mathlib.Core.Option.{none, some}
+use Rattle.std.proofs.Common.{◌≡◌, ℕ, suc, ◌+◌, ◌%◌, ◌^◌, ◌<◌, eqb, true, false, cond, List, [], ◌∷◌, ◌++◌, length, Option, Some, None, sym, refl, ap, ◌∙◌, subst, arith, length-append, get_or}
+use mathlib.Core.Option.{none}
 use mathlib.Core.List.{IsPrefix}
-use lib.ListN.{get_elem?}
 use Rattle.atomic_table.specs.Table.{keeps, takes, gives, step, Allows}
 use Rattle.kernel_values.specs.declared.entry.Entry.{Entry}
 use Rattle.kernel_values.specs.Origin.{Origin}
 use Rattle.turnstile.specs.declared.view.View.{View}
 use Rattle.turnstile.specs.Numbers.{times, once_below, Rises}
 use Rattle.turnstile.specs.Views.{shut, opened, added, left}
-use Rattle.turnstile.specs.Rule.{About, Turn, free, out, Turns, Fits, Good, Kept}
+use Rattle.turnstile.specs.Rule.{About, free, out, Kept}
 use Rattle.turnstile.specs.Steps.{Sat, AddsOne, Shuts, Opens, Adds, Leaves}
 use Rattle.turnstile.proofs.Begins.{same_begins, all_on}
 use Rattle.turnstile.proofs.Sums.{once_more, times_append}

@@ -1,16 +1,16 @@
 -- A new seat beside another, and a seat taken in by another.
-use Rattle.std.proofs.Common.{◌≡◌, ◌≢◌, ℕ, ◌+◌, ◌≤◌, max, Bool, true, false, List, [], ◌∷◌, ◌++◌, length, set, Option, Some, None, sym, refl, ap, ◌∙◌, subst, ⊎_elim, arith}
+use Rattle.std.proofs.Common.{◌≡◌, ◌≢◌, ℕ, ◌+◌, ◌≤◌, max, true, false, List, [], ◌∷◌, ◌++◌, length, set, Some, sym, refl, ap, ◌∙◌, subst, ⊎_elim, arith}
 use mathlib.Core.Option.{some, some-injective}
 use mathlib.Core.List.{IsPrefix}
 use lib.ListN.{get_elem?}
-use Rattle.atomic_table.specs.Table.{State, Splits, Joins}
+use Rattle.atomic_table.specs.Table.{Splits, Joins}
 use Rattle.atomic_table.proofs.Lists.{at_set, set_else, set_again, at_longer, at_snoc}
 use Rattle.kernel_values.specs.declared.entry.Entry.{Entry}
 use Rattle.kernel_values.specs.Origin.{Origin}
 use Rattle.turnstile.specs.declared.view.View.{View}
-use Rattle.turnstile.specs.Numbers.{times, once_below, total, Rises, merged}
+use Rattle.turnstile.specs.Numbers.{times}
 use Rattle.turnstile.specs.Views.{child, both, given_up, numbers, own_number, longer}
-use Rattle.turnstile.specs.Rule.{About, Turn, free, taken, out, Apart, Turns, There, Fits, Good, Kept}
+use Rattle.turnstile.specs.Rule.{About, Turn, free, taken, out, Turns, There, Fits, Good, Kept}
 use Rattle.turnstile.proofs.Begins.{begins_length, all_of_both, longer_begins, longer_length, longer_within, longer_first}
 use Rattle.turnstile.proofs.Sums.{total_set, total_more, total_two, times_append, at_most_once}
 use Rattle.turnstile.proofs.Rising.{rises_wider, rises_merged, times_merged}

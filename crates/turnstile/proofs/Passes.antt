@@ -1,6 +1,6 @@
 -- A pass stays a pass of its turnstile.
-use Rattle.std.proofs.Common.{cond, eqb, eq-eqb, Result, Ok, Err, IfOk, IfErr, get_or, ◌≡◌, ◌≢◌, ℕ, suc, ◌+◌, ◌<◌, ◌≤◌, max, Bool, true, false, List, [], ◌∷◌, ◌++◌, length, Option, Some, sym, refl, ap, ◌∙◌, subst, arith, length-append}
-use mathlib.Core.List.{IsPrefix, append-nil}
+use Rattle.std.proofs.Common.{cond, eqb, eq-eqb, Result, Ok, Err, IfOk, IfErr, get_or, ◌≡◌, ◌≢◌, ℕ, suc, ◌+◌, ◌<◌, ◌≤◌, max, List, [], ◌∷◌, ◌++◌, length, Option, Some, sym, refl, ap, ◌∙◌, subst, arith, length-append}
+use mathlib.Core.List.{append-nil}
 use Rattle.atomic_table.specs.Seated.{TableId}
 use Rattle.kernel_values.specs.declared.entry.Entry.{Entry}
 use Rattle.kernel_values.specs.Origin.{Origin}
@@ -9,9 +9,9 @@ use Rattle.turnstile.specs.declared.view.View.{View}
 use Rattle.turnstile.specs.declared.lock.Busy.{Busy}
 use Rattle.turnstile.specs.declared.pass.Pass.{Pass}
 use Rattle.turnstile.specs.Numbers.{Rises, merged, times}
-use Rattle.turnstile.specs.Views.{first_view, given_up, counted, tried, waited, found_none, both, missed, child, longer, numbers, own_number, won, fetched, shut, entered, added, left}
+use Rattle.turnstile.specs.Views.{first_view, given_up, counted, tried, waited, found_none, both, missed, child, longer, numbers, own_number, entered, added, left}
 use Rattle.turnstile.specs.Steps.{Continues, AddsOne, IsOfAnother}
-use Rattle.turnstile.specs.Passes.{view, IsSound, IsPassOf}
+use Rattle.turnstile.specs.Passes.{view, IsSound, IsPassAt}
 use Rattle.turnstile.proofs.Begins.{begins_length, longer_first}
 use Rattle.turnstile.proofs.Rising.{rises_wider, rises_more, rises_below, merged_none}
 
@@ -68,12 +68,12 @@ module _ (origin : Origin) (seats number drawn : ℕ) (v : View) (s : IsSound or
       }
 
 -- a pass from its parts
-pub is_pass : (table : TableId) (origin : Origin) (seats number drawn : ℕ) (q : Pass) (w : View) → q.badge.table_id ≡ table → q.badge.views ≡ view q ∷ [] → view q ≡ w → q.number ≡ number → q.drawn ≡ drawn → IsSound origin seats number drawn w → IsPassOf table origin seats q
+pub is_pass : (table : TableId) (origin : Origin) (seats number drawn : ℕ) (q : Pass) (w : View) → q.badge.table_id ≡ table → q.badge.views ≡ view q ∷ [] → view q ≡ w → q.number ≡ number → q.drawn ≡ drawn → IsSound origin seats number drawn w → IsPassAt table origin seats q
 is_pass table origin seats number drawn q w at views same number_is drawn_is sound = (at, views, subst (λ (z : View × (ℕ × ℕ)). IsSound origin seats z.1.0 z.1.1 z.0) (λ i. (sym same i, (sym number_is i, sym drawn_is i))) sound)
 
 -- the pass with another view
-pub same_pass : (table : TableId) (origin : Origin) (seats : ℕ) (p q : Pass) (w : View) → IsPassOf table origin seats p → q.badge.table_id ≡ table → q.badge.views ≡ view q ∷ [] → view q ≡ w → q.number ≡ p.number → q.drawn ≡ p.drawn
-    → IsSound origin seats p.number p.drawn w → IsPassOf table origin seats q
+pub same_pass : (table : TableId) (origin : Origin) (seats : ℕ) (p q : Pass) (w : View) → IsPassAt table origin seats p → q.badge.table_id ≡ table → q.badge.views ≡ view q ∷ [] → view q ≡ w → q.number ≡ p.number → q.drawn ≡ p.drawn
+    → IsSound origin seats p.number p.drawn w → IsPassAt table origin seats q
 same_pass table origin seats p q w is at views same number drawn sound = (at, views, subst (λ (z : View × (ℕ × ℕ)). IsSound origin seats z.1.0 z.1.1 z.0) (λ i. (sym same i, (sym number i, sym drawn i))) sound)
 
 -- after one try to enter
@@ -86,7 +86,7 @@ sound_first : (history : List Entry) (origin : Origin) (seats : ℕ) → 0 < sea
 sound_first history origin seats some = record { spent = refl; origin_is = refl; seats_is = refl; number_is = refl; drawn_is = refl; few = omega arith; knows = omega arith; rises = rises_below (length history); holds = refl; shut = refl }
 
 pub first_pass : (table : TableId) (history : List Entry) (origin : Origin) (seats : ℕ) (b : Badge View) → 0 < seats → b.table_id ≡ table → b.views ≡ first_view history origin seats ∷ []
-    → IsPassOf table origin seats record { badge = b; number = 0; drawn = 1 } × (view record { badge = b; number = 0; drawn = 1 } ≡ first_view history origin seats)
+    → IsPassAt table origin seats record { badge = b; number = 0; drawn = 1 } × (view record { badge = b; number = 0; drawn = 1 } ≡ first_view history origin seats)
 first_pass table history origin seats b some at views =
     let same : get_or b.views 0 given_up ≡ first_view history origin seats = ap (λ l. get_or l 0 given_up) views in
     ((at, views ∙ ap (λ v. v ∷ []) (sym same), subst (IsSound origin seats 0 1) (sym same) (sound_first history origin seats some)), same)

@@ -1,9 +1,9 @@
 -- As many different numbers below a bound as the bound are all of them.
 use Rattle.std.proofs.Common.{◌≡◌, ◌≢◌, ℕ, zero, suc, ◌+◌, ◌<◌, ◌≤◌, eqb, cond, List, [], ◌∷◌, length, sym, refl, ap, ◌∙◌, arith}
 use mathlib.Core.Logic.{dite}
-use native.Mathlib.Decide.{dec_le, ℕ_discrete}
+use native.Mathlib.Decide.{ℕ_discrete}
 use Rattle.turnstile.specs.Numbers.{times, once_below}
-use Rattle.turnstile.proofs.Sums.{once, never, is_below, not_below, once_more, at_most_once}
+use Rattle.turnstile.proofs.Sums.{once, never, not_below, once_more, at_most_once}
 
 -- f of each number below n, added up
 abbrev summed : (ℕ → ℕ) → ℕ → ℕ

@@ -1,9 +1,9 @@
 -- Lists of numbers that rise.
-use Rattle.std.proofs.Common.{◌≡◌, ◌≢◌, ℕ, zero, suc, ◌+◌, ◌<◌, ◌≤◌, eqb, ltb, Bool, true, false, cond, List, [], ◌∷◌, ◌++◌, length, sym, refl, ap, ◌∙◌, subst, ⊎_elim, inl, inr, arith, add-one}
+use Rattle.std.proofs.Common.{◌≡◌, ◌≢◌, ℕ, zero, suc, ◌+◌, ◌<◌, ◌≤◌, eqb, ltb, Bool, true, false, cond, List, [], ◌∷◌, ◌++◌, sym, refl, ap, ◌∙◌, subst, arith}
 use mathlib.Core.Logic.{dite}
-use native.Mathlib.Decide.{dec_le, ℕ_discrete}
+use native.Mathlib.Decide.{ℕ_discrete}
 use Rattle.turnstile.specs.Numbers.{times, once_below, Rises, below, placed, merged}
-use Rattle.turnstile.proofs.Sums.{once, never, times_append, once_more, not_below}
+use Rattle.turnstile.proofs.Sums.{once, times_append, once_more, not_below}
 
 pub rises_wider : (low high high' : ℕ) (xs : List ℕ) → high ≤ high' → Rises low high xs → Rises low high' xs
 rises_wider low high high' [] h r = tt

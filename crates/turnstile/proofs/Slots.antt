@@ -1,5 +1,5 @@
 -- A seat that holds the one slot.
-use Rattle.std.proofs.Common.{◌≡◌, ℕ, List, [], ◌∷◌, sym, ap, ◌∙◌, arith, Option}
+use Rattle.std.proofs.Common.{◌≡◌, ℕ, List, [], ◌∷◌, sym, ap, ◌∙◌}
 use Rattle.atomic_table.specs.Table.{Me, rest}
 
 pub one_held : {A : Type 0} (l : List (ℕ × A)) (k : ℕ) (x : A) → l ≡ (k, x) ∷ [] → l ≡ (k, x) ∷ rest l

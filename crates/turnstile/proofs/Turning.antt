@@ -1,5 +1,5 @@
 -- The steps of a seat that has not the turn, or takes it.
-use Rattle.std.proofs.Common.{◌≡◌, ◌≢◌, ℕ, zero, suc, ◌+◌, ◌<◌, ◌≤◌, eqb, ltb, Bool, true, false, cond, List, [], ◌∷◌, ◌++◌, length, get_or, set, Option, Some, None, sym, refl, ap, ◌∙◌, subst, ⊎_elim, arith, map, eq-eqb, ne_eqb}
+use Rattle.std.proofs.Common.{◌≡◌, ◌≢◌, ℕ, zero, suc, ◌+◌, ◌<◌, ◌≤◌, eqb, true, false, cond, List, [], ◌∷◌, ◌++◌, length, set, Option, Some, None, sym, refl, ap, ◌∙◌, subst, arith, eq-eqb, ne_eqb}
 use mathlib.Core.Option.{none, some, some-injective}
 use mathlib.Core.Option as maybe
 use mathlib.Core.List.{IsPrefix}
@@ -7,17 +7,17 @@ use mathlib.Core.Logic.{dite}
 use native.Mathlib.Decide.{dec_le, ℕ_discrete}
 use lib.ListN.{get_elem?}
 use prog.Atomic.{either}
-use Rattle.atomic_table.specs.Table.{State, Act, keeps, takes, gives, step, opening, Allows}
-use Rattle.atomic_table.proofs.Lists.{set_here, set_else, exchanged}
+use Rattle.atomic_table.specs.Table.{keeps, takes, step, opening, Allows}
+use Rattle.atomic_table.proofs.Lists.{set_else, exchanged}
 use Rattle.kernel_values.specs.declared.entry.Entry.{Entry}
 use Rattle.kernel_values.specs.Origin.{Origin}
 use Rattle.turnstile.specs.declared.view.View.{View}
-use Rattle.turnstile.specs.Numbers.{times, once_below, total, Rises, below}
+use Rattle.turnstile.specs.Numbers.{times, once_below, total}
 use Rattle.turnstile.specs.Views.{first_view, won, tried, fetched, counted, drew, missed, numbers, own_number}
-use Rattle.turnstile.specs.Rule.{About, Turn, free, taken, out, AllBegin, Apart, Waits, Works, word_of, slot_of, slot_out, Turns, There, Fits, Inside, Good, Kept}
-use Rattle.turnstile.specs.Steps.{Sat, Continues, IsOfAnother, HasAllIfAlone, Takes, Counts, Fetches, Draws}
-use Rattle.turnstile.proofs.Begins.{same_begins, begins_on, begins_length, all_on}
-use Rattle.turnstile.proofs.Sums.{total_set, total_at, total_two, total_alone, once, never, once_more, once_next, once_within, at_most_once, is_below, not_below, times_append}
+use Rattle.turnstile.specs.Rule.{About, Turn, free, taken, out, AllBegin, word_of, slot_of, Turns, There, Fits, Good, Kept}
+use Rattle.turnstile.specs.Steps.{Sat, HasAllIfAlone, Takes, Counts, Fetches, Draws}
+use Rattle.turnstile.proofs.Begins.{same_begins, begins_length}
+use Rattle.turnstile.proofs.Sums.{total_at, total_two, total_alone, once, once_more, once_next, once_within, at_most_once, not_below}
 use Rattle.turnstile.proofs.Pigeons.{pigeons}
 use Rattle.turnstile.proofs.Rising.{rises_wider, rises_below, times_below}
 use Rattle.turnstile.proofs.Changes.{is_not, stays, changes, Goes, allows, allows_taken}

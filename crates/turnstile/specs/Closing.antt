@@ -1,15 +1,15 @@
 -- What the clauses of `close` say: of all passes together, and of the one that they were joined into.
-use Rattle.std.specs.Prelude.{◌≡◌, ℕ, ◌+◌, ◌≤◌, max, Bool, true, false, List, [], ◌∷◌, length, Option, Some, All}
+use Rattle.std.specs.Prelude.{◌≡◌, ℕ, ◌+◌, ◌≤◌, false, List, [], ◌∷◌, length, Some, All}
 use mathlib.Core.List.{IsPrefix}
 use Rattle.atomic_table.specs.Seated.{TableId}
 use Rattle.kernel_values.specs.declared.entry.Entry.{Entry}
 use Rattle.kernel_values.specs.Origin.{Origin}
 use Rattle.turnstile.specs.declared.view.View.{View}
 use Rattle.turnstile.specs.declared.pass.Pass.{Pass}
-use Rattle.turnstile.specs.Numbers.{Rises, times, total, once_below}
+use Rattle.turnstile.specs.Numbers.{times, total, once_below}
 use Rattle.turnstile.specs.Views.{numbers}
 use Rattle.turnstile.specs.Rule.{AllBegin}
-use Rattle.turnstile.specs.Passes.{view, IsPassOf}
+use Rattle.turnstile.specs.Passes.{view}
 
 -- how many of the passes have the place as their own
 abbrev pub owners : ℕ → List Pass → ℕ
@@ -18,10 +18,6 @@ owners place passes = total (λ p. times place (view p).mine) passes
 -- what each pass has seen begins the history
 abbrev pub AllSaw : List Pass → List Entry → Type 0
 AllSaw passes history = All (λ p. IsPrefix (view p).seen history) passes
-
--- the passes are of this turnstile, and none has its value
-abbrev pub AllRest : TableId → Origin → ℕ → List Pass → Type 0
-AllRest table origin seats passes = All (λ p. IsPassOf table origin seats p × ((view p).has_turn ≡ false)) passes
 
 -- the pass has seen the whole history, and every place of it is its own
 abbrev pub HasWhole : Pass → List Entry → Type 0
@@ -39,8 +35,8 @@ pub record Stands (origin : Origin) (seats number drawn : ℕ) (v : View) : Type
   pub fresh : v.loaded ≡ false
   pub shut : v.opens ≡ false
 
-abbrev pub IsWholeOf : TableId → Origin → ℕ → Pass → Type 0
-IsWholeOf table origin seats p = (p.badge.table_id ≡ table) × (p.badge.views ≡ view p ∷ []) × Stands origin seats p.number p.drawn (view p)
+abbrev pub IsWholeAt : TableId → Origin → ℕ → Pass → Type 0
+IsWholeAt table origin seats p = (p.badge.table_id ≡ table) × (p.badge.views ≡ view p ∷ []) × Stands origin seats p.number p.drawn (view p)
 
 -- the view stands for all passes but the rest: it has their places, a number for each, and knows what they had seen
 pub record Gathers (passes rest : List Pass) (v : View) : Type 0 where

@@ -1,10 +1,10 @@
 -- What the clauses of the public calls say of passes.
-use Rattle.std.specs.Prelude.{◌≡◌, ℕ, ◌≤◌, Bool, true, false, List, [], ◌∷◌, length, Option, Some, slice_index_or}
+use Rattle.std.specs.Prelude.{◌≡◌, ℕ, ◌≤◌, false, [], ◌∷◌, length, Some, slice_index_or}
 use Rattle.atomic_table.specs.Seated.{TableId}
 use Rattle.kernel_values.specs.Origin.{Origin}
 use Rattle.turnstile.specs.declared.view.View.{View}
 use Rattle.turnstile.specs.declared.pass.Pass.{Pass}
-use Rattle.turnstile.specs.Numbers.{Rises, times, total}
+use Rattle.turnstile.specs.Numbers.{Rises}
 use Rattle.turnstile.specs.Views.{given_up}
 
 -- what a pass knows
@@ -25,5 +25,5 @@ pub record IsSound (origin : Origin) (seats number drawn : ℕ) (v : View) : Typ
   pub shut : v.opens ≡ false
 
 -- the pass is one of the table's, and its view is sound
-abbrev pub IsPassOf : TableId → Origin → ℕ → Pass → Type 0
-IsPassOf table origin seats p = (p.badge.table_id ≡ table) × (p.badge.views ≡ view p ∷ []) × IsSound origin seats p.number p.drawn (view p)
+abbrev pub IsPassAt : TableId → Origin → ℕ → Pass → Type 0
+IsPassAt table origin seats p = (p.badge.table_id ≡ table) × (p.badge.views ≡ view p ∷ []) × IsSound origin seats p.number p.drawn (view p)

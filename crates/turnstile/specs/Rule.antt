@@ -1,5 +1,5 @@
 -- The rule of the lock. Word 0 is the number of entries of the history, word 1 is the turn, 0 where it is free and else 1 plus the holder's number, and word 2 is how many numbers were drawn. The slot has the value, or is empty while a holder has it.
-use Rattle.std.specs.Prelude.{◌≡◌, ◌≢◌, ℕ, ◌+◌, ◌<◌, ◌≤◌, Bool, true, false, List, [], ◌∷◌, length, Option, Some, None}
+use Rattle.std.specs.Prelude.{◌≡◌, ◌≢◌, ℕ, ◌+◌, ◌≤◌, Bool, true, false, List, [], ◌∷◌, length, Option, Some, None}
 use mathlib.Core.Option.{some}
 use mathlib.Core.Option as maybe
 use mathlib.Core.List.{IsPrefix}

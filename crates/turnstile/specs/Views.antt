@@ -1,5 +1,5 @@
 -- What each step makes of a view.
-use Rattle.std.specs.Prelude.{ℕ, ◌+◌, max, nat_le, Bool, true, false, cond, List, [], ◌∷◌, ◌++◌, length, Option, Some, None}
+use Rattle.std.specs.Prelude.{ℕ, ◌+◌, max, nat_le, true, false, cond, List, [], ◌∷◌, ◌++◌, length, Option, Some, None}
 use Rattle.kernel_values.specs.declared.entry.Entry.{Entry}
 use Rattle.kernel_values.specs.Origin.{Origin}
 use Rattle.turnstile.specs.declared.view.View.{View}

@@ -35,14 +35,14 @@ pub struct NewRefused<V: Drop> {
 }
 
 /// Another pass had the turn: `word` is 1 plus its number.
-#[derive(Drop, Debug)]
+#[derive(Clone, Copy, PartialEq, Eq, Debug)]
 pub struct Busy {
     pub word: u64,
 }
 
 impl<V: Recorded + Drop> Turnstile<V> {
-    ghost use Rattle.turnstile.specs.Names.{table_of, first_of};
-    ghost use Rattle.turnstile.specs.Passes.{IsPassOf, view};
+    ghost use Rattle.turnstile.specs.Names.{table_of, first_of, IsPassOf};
+    ghost use Rattle.turnstile.specs.Passes.{view};
     ghost use Rattle.turnstile.specs.Views.{first_view, counted, tried, waited, won, entered, left, added};
     ghost use Rattle.turnstile.specs.Steps.{Continues, AddsOne, IsOfAnother};
 
@@ -50,7 +50,7 @@ impl<V: Recorded + Drop> Turnstile<V> {
     pub fn new(alloc: Global, value: V, seats: u32) -> Result<(Turnstile<V>, Pass), NewRefused<V>>
         requires { 0 < seats }
         ensures ok { IfOk result (λ r. (first_of r.0 ≡ value) × (r.0.seats ≡ seats)) }
-        ensures pass { IfOk result (λ r. IsPassOf (table_of r.0) (V.origin value) seats r.1 × (view r.1 ≡ first_view (V.history value) (V.origin value) seats)) }
+        ensures pass { IfOk result (λ r. IsPassOf V.origin r.0 r.1 × (view r.1 ≡ first_view (V.history value) (V.origin value) seats)) }
         ensures err { IfErr result (λ r. r.value ≡ value) }
     {
         let words = [value.recorded(), 0, 1];
@@ -76,9 +76,9 @@ impl<V: Recorded + Drop> Turnstile<V> {
 
     /// Takes the value, if the turn is free.
     pub fn try_enter(&self, pass: &mut Pass) -> Result<V, Busy>
-        requires pass { IsPassOf (table_of self.now) (V.origin (first_of self.now)) self.now.seats pass.old }
+        requires pass { IsPassOf V.origin self.now pass.old }
         requires out { (view pass.old).has_turn ≡ false }
-        ensures pass { IsPassOf (table_of self.now) (V.origin (first_of self.now)) self.now.seats pass.new }
+        ensures pass { IsPassOf V.origin self.now pass.new }
         ensures ok { IfOk result (λ value. (view pass.new ≡ entered (view pass.old) (V.history value)) × Continues (view pass.old) (V.history value) × (V.origin value ≡ V.origin (first_of self.now))) }
         ensures busy { IfErr result (λ busy. (view pass.new ≡ tried (view pass.old) busy.word) × IsOfAnother (view pass.old) busy.word) }
         ensures word { IfErr result (λ busy. (busy.word ≢ 0) × (busy.word ≢ pass.old.number + 1)) }
@@ -103,9 +103,9 @@ impl<V: Recorded + Drop> Turnstile<V> {
 
     /// Waits for the turn, and takes the value.
     pub fn enter(&self, rt: &impl Wait, pass: &mut Pass) -> V
-        requires pass { IsPassOf (table_of self.now) (V.origin (first_of self.now)) self.now.seats pass.old }
+        requires pass { IsPassOf V.origin self.now pass.old }
         requires out { (view pass.old).has_turn ≡ false }
-        ensures pass { IsPassOf (table_of self.now) (V.origin (first_of self.now)) self.now.seats pass.new }
+        ensures pass { IsPassOf V.origin self.now pass.new }
         ensures tries { (view pass.old).tries ≤ (view pass.new).tries }
         ensures view { view pass.new ≡ entered (waited (view pass.old) (view pass.new).tries (view pass.new).last) (V.history result) }
         ensures history { Continues (view pass.old) (V.history result) }
@@ -141,11 +141,11 @@ impl<V: Recorded + Drop> Turnstile<V> {
 
     /// Gives the value back with the history that it had.
     pub fn leave(&self, pass: &mut Pass, value: V)
-        requires pass { IsPassOf (table_of self.now) (V.origin (first_of self.now)) self.now.seats pass.old }
+        requires pass { IsPassOf V.origin self.now pass.old }
         requires holds { (view pass.old).has_turn ≡ true }
         requires history { V.history value ≡ (view pass.old).seen }
         requires origin { V.origin value ≡ V.origin (first_of self.now) }
-        ensures pass { IsPassOf (table_of self.now) (V.origin (first_of self.now)) self.now.seats pass.new }
+        ensures pass { IsPassOf V.origin self.now pass.new }
         ensures view { view pass.new ≡ left (view pass.old) }
     {
         let mut seat = pass.take_seat::<V>();
@@ -156,12 +156,12 @@ impl<V: Recorded + Drop> Turnstile<V> {
 
     /// Gives the value back with one entry more.
     pub fn leave_with(&self, pass: &mut Pass, value: V)
-        requires pass { IsPassOf (table_of self.now) (V.origin (first_of self.now)) self.now.seats pass.old }
+        requires pass { IsPassOf V.origin self.now pass.old }
         requires holds { (view pass.old).has_turn ≡ true }
         requires history { AddsOne (view pass.old).seen (V.history value) }
         requires room { length (V.history value) < 2 ^ 64 }
         requires origin { V.origin value ≡ V.origin (first_of self.now) }
-        ensures pass { IsPassOf (table_of self.now) (V.origin (first_of self.now)) self.now.seats pass.new }
+        ensures pass { IsPassOf V.origin self.now pass.new }
         ensures view { view pass.new ≡ left (added (view pass.old) (V.history value)) }
     {
         let mut seat = pass.take_seat::<V>();
@@ -170,10 +170,11 @@ impl<V: Recorded + Drop> Turnstile<V> {
         self.give_turn(&mut seat);
         pass.return_seat(seat);
     }
+
     /// How many entries the history has, and no fewer than this pass knew of.
     pub fn count(&self, pass: &mut Pass) -> u64
-        requires { IsPassOf (table_of self.now) (V.origin (first_of self.now)) self.now.seats pass.old }
-        ensures pass { IsPassOf (table_of self.now) (V.origin (first_of self.now)) self.now.seats pass.new }
+        requires { IsPassOf V.origin self.now pass.old }
+        ensures pass { IsPassOf V.origin self.now pass.new }
         ensures known { ((view pass.old).known ≤ result) × (view pass.new ≡ counted (view pass.old) result) }
     {
         let mut seat = pass.take_seat::<V>();

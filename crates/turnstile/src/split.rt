@@ -9,7 +9,7 @@ use atomic_table::Seat;
 use kernel_values::Recorded;
 
 /// Why there is no further pass.
-#[derive(Drop, Debug)]
+#[derive(Clone, Copy, PartialEq, Eq, Debug)]
 pub enum SplitRefused {
     /// As many passes were made as the turnstile has seats.
     NoneLeft,
@@ -17,16 +17,16 @@ pub enum SplitRefused {
 }
 
 impl<V: Recorded + Drop> Turnstile<V> {
-    ghost use Rattle.turnstile.specs.Names.{table_of, first_of};
-    ghost use Rattle.turnstile.specs.Passes.{IsPassOf, view};
+    ghost use Rattle.turnstile.specs.Names.{table_of, IsPassOf};
+    ghost use Rattle.turnstile.specs.Passes.{view};
     ghost use Rattle.turnstile.specs.Views.{child, drew, missed};
     ghost use Rattle.turnstile.specs.Splitting.{Refuses};
 
     /// One more pass, which has seen what this one has.
     pub fn split(&self, pass: &mut Pass) -> Result<Pass, SplitRefused>
-        requires { IsPassOf (table_of self.now) (V.origin (first_of self.now)) self.now.seats pass.old }
-        ensures pass { IsPassOf (table_of self.now) (V.origin (first_of self.now)) self.now.seats pass.new }
-        ensures ok { IfOk result (λ other. IsPassOf (table_of self.now) (V.origin (first_of self.now)) self.now.seats other × (view other ≡ drew (child (view pass.old)) other.number) × ((view pass.old).drawn ≤ other.number) × (other.number < self.now.seats) × (view pass.new ≡ view pass.old)) }
+        requires { IsPassOf V.origin self.now pass.old }
+        ensures pass { IsPassOf V.origin self.now pass.new }
+        ensures ok { IfOk result (λ other. IsPassOf V.origin self.now other × (view other ≡ drew (child (view pass.old)) other.number) × ((view pass.old).drawn ≤ other.number) × (other.number < self.now.seats) × (view pass.new ≡ view pass.old)) }
         ensures refused { IfErr result (λ why. Refuses why (view pass.old) (view pass.new)) }
     {
         let seats = self.seats;

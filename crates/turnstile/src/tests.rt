@@ -1,10 +1,8 @@
 ghost use Rattle.std.specs.Prelude.{◌≡◌, ◌+◌, ◌^◌, ◌<◌, false, length, MatchBool, IfOk};
-ghost use Rattle.std.specs.Thread.{IsSync};
 ghost use Rattle.turnstile.specs.Nowhere.{nowhere};
 ghost use Rattle.turnstile.specs.Steps.{AddsOne};
-ghost use Rattle.turnstile.specs.Names.{table_of, first_of};
-ghost use Rattle.turnstile.specs.Passes.{IsPassOf, view};
-ghost use Rattle.turnstile.specs.Closing.{AllRest};
+ghost use Rattle.turnstile.specs.Names.{IsPassOf, AllRest};
+ghost use Rattle.turnstile.specs.Passes.{view};
 
 use crate::{Pass, SplitRefused, Turnstile};
 use kernel_values::{Answer, Entry, Event, Items, NoMemory, Recorded, Seqs};
@@ -60,8 +58,8 @@ impl Tally {
 }
 
 fn add_once<R: Wait>(rt: &R, turnstile: &Turnstile<Tally>, pass: &mut Pass)
-    requires { IsPassOf (table_of turnstile.now) nowhere turnstile.now.seats pass.old × ((view pass.old).has_turn ≡ false) }
-    ensures { IsPassOf (table_of turnstile.now) nowhere turnstile.now.seats pass.new × ((view pass.new).has_turn ≡ false) }
+    requires { IsPassOf (λ _. nowhere) turnstile.now pass.old × ((view pass.old).has_turn ≡ false) }
+    ensures { IsPassOf (λ _. nowhere) turnstile.now pass.new × ((view pass.new).has_turn ≡ false) }
 {
     let mut tally = turnstile.enter(rt, pass);
     if tally.add() {
@@ -72,8 +70,8 @@ fn add_once<R: Wait>(rt: &R, turnstile: &Turnstile<Tally>, pass: &mut Pass)
 }
 
 fn add_often<R: Wait>(rt: &R, turnstile: &Turnstile<Tally>, pass: Pass, times: u32) -> Pass
-    requires { IsPassOf (table_of turnstile.now) nowhere turnstile.now.seats pass × ((view pass).has_turn ≡ false) }
-    ensures { IsPassOf (table_of turnstile.now) nowhere turnstile.now.seats result × ((view result).has_turn ≡ false) }
+    requires { IsPassOf (λ _. nowhere) turnstile.now pass × ((view pass).has_turn ≡ false) }
+    ensures { IsPassOf (λ _. nowhere) turnstile.now result × ((view result).has_turn ≡ false) }
 {
     let mut pass = pass;
     for _ in 0..times {
@@ -88,15 +86,15 @@ fn add_by_all<R: Threads + Wait + Sync>(
     passes: Vec<Pass>,
     times: u32,
 ) -> Result<Vec<Pass>, AllocError>
-    requires { AllRest (table_of turnstile.now) nowhere turnstile.now.seats passes.items }
-    ensures { IfOk result (λ v. AllRest (table_of turnstile.now) nowhere turnstile.now.seats v.items × (length v.items ≡ length passes.items)) }
+    requires { AllRest (λ _. nowhere) turnstile.now passes.items }
+    ensures { IfOk result (λ v. AllRest (λ _. nowhere) turnstile.now v.items × (length v.items ≡ length passes.items)) }
 {
     thread::map_vec(
         rt,
         passes,
         &|pass: Pass| -> Pass
-            requires { IsPassOf (table_of turnstile.now) nowhere turnstile.now.seats pass × ((view pass).has_turn ≡ false) }
-            ensures { IsPassOf (table_of turnstile.entry.now) nowhere turnstile.entry.now.seats result × ((view result).has_turn ≡ false) }
+            requires { IsPassOf (λ _. nowhere) turnstile.now pass × ((view pass).has_turn ≡ false) }
+            ensures { IsPassOf (λ _. nowhere) turnstile.entry.now result × ((view result).has_turn ≡ false) }
         { add_often(rt, turnstile, pass, times) },
     )
 }
@@ -107,9 +105,9 @@ fn with_pass(
     passes: Vec<Pass>,
     pass: Pass,
 ) -> Result<Vec<Pass>, NoMemory>
-    requires passes { AllRest (table_of turnstile.now) nowhere turnstile.now.seats passes.items }
-    requires pass { IsPassOf (table_of turnstile.now) nowhere turnstile.now.seats pass × ((view pass).has_turn ≡ false) }
-    ensures passes { IfOk result (λ v. AllRest (table_of turnstile.now) nowhere turnstile.now.seats v.items) }
+    requires passes { AllRest (λ _. nowhere) turnstile.now passes.items }
+    requires pass { IsPassOf (λ _. nowhere) turnstile.now pass × ((view pass).has_turn ≡ false) }
+    ensures passes { IfOk result (λ v. AllRest (λ _. nowhere) turnstile.now v.items) }
     ensures len { IfOk result (λ v. length v.items ≡ length passes.items + 1) }
 {
     let mut passes = passes;

@@ -1,4 +1,4 @@
-use Rattle.std.proofs.Common.{◌-◌, ◌≡◌, ◌≤◌, [], ℕ}
+use Rattle.std.proofs.Common.{◌-◌, ◌≡◌, ◌≤◌, []}
 use Rattle.turnstile.specs.Views.{missed}
 use Rattle.turnstile.proofs.lock.Turnstile.draw.Given as goal
 

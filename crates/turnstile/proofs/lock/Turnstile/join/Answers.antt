@@ -1,9 +1,7 @@
-use Rattle.std.proofs.Common.{rules, ◌≡◌, ap, ◌∙◌, false, true, Some, [], arith, max, subst, sym, ℕ}
-use Rattle.turnstile.specs.declared.view.View.{View}
+use Rattle.std.proofs.Common.{◌≡◌, ap, ◌∙◌, false, Some, arith, max}
 use Rattle.turnstile.specs.Steps.{Sat}
 use Rattle.turnstile.specs.Views.{both}
 use Rattle.turnstile.specs.Passes.{view}
-use Rattle.turnstile.specs.Closing.{Stands}
 use Rattle.turnstile.proofs.Joining.{gathers}
 use Rattle.turnstile.proofs.Gathering.{stands_both, stands_at}
 use Rattle.turnstile.proofs.lock.Turnstile.join.Goals as goal

@@ -1,5 +1,4 @@
 use Rattle.turnstile.specs.Passes.{view}
-use Rattle.turnstile.specs.Views.{both}
 use Rattle.turnstile.specs.Closing.{Gathers}
 use Rattle.std.proofs.Common.{sym, subst}
 use Rattle.turnstile.specs.declared.view.View.{View}

@@ -1,7 +1,5 @@
-use Rattle.std.proofs.Common.{rules, arith, sym, ◌∙◌, ◌≡◌, ap, refl, Some, None, [], ◌∷◌, List, ℕ, Option}
-use Rattle.turnstile.specs.declared.view.View.{View}
+use Rattle.std.proofs.Common.{arith, ap, List, ℕ, Option}
 use Rattle.turnstile.proofs.Holding.{opens}
-use Rattle.turnstile.proofs.Slots.{one_held, now_held}
 use Rattle.turnstile.proofs.lock.Turnstile.lay_value.Goals as goal
 
 pub load-requires : goal.load-requires

@@ -1,4 +1,4 @@
-use Rattle.std.proofs.Common.{rules, ◌≡◌, sym, ap, ◌∙◌, subst, Some, [], ◌∷◌, List, ℕ, Option}
+use Rattle.std.proofs.Common.{rules, ◌≡◌, sym, ap, ◌∙◌, subst, List}
 use Rattle.kernel_values.specs.declared.entry.Entry.{Entry}
 use Rattle.turnstile.specs.Steps.{Sat, AddsOne}
 use Rattle.turnstile.specs.Views.{left, added}

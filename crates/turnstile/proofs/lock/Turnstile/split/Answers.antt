@@ -1,4 +1,4 @@
-use Rattle.std.proofs.Common.{◌≡◌, sym, ap, ◌∙◌, refl, false, Some, arith}
+use Rattle.std.proofs.Common.{◌≡◌, ap, ◌∙◌, false, Some, arith}
 use Rattle.turnstile.specs.declared.view.View.{View}
 use Rattle.turnstile.specs.Steps.{Sat}
 use Rattle.turnstile.specs.Views.{found_none, both, missed, child}

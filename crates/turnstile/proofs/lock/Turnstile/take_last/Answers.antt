@@ -1,4 +1,4 @@
-use Rattle.std.proofs.Common.{rules, ◌≡◌, ap, ◌∙◌, subst, sym, length, ℕ, List}
+use Rattle.std.proofs.Common.{◌≡◌, ap, ◌∙◌, subst, length}
 use Rattle.turnstile.specs.declared.view.View.{View}
 use Rattle.turnstile.specs.Numbers.{Rises}
 use Rattle.turnstile.specs.Steps.{Sat, Continues}

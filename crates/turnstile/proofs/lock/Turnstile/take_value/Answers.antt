@@ -1,4 +1,4 @@
-use Rattle.std.proofs.Common.{rules, arith, sym, ◌∙◌, ap, refl, Some, None}
+use Rattle.std.proofs.Common.{arith, ◌∙◌, ap, Some, None}
 use Rattle.turnstile.specs.declared.view.View.{View}
 use Rattle.turnstile.proofs.Turning.{fetches}
 use Rattle.turnstile.proofs.Holding.{shuts}

@@ -1,5 +1,4 @@
-use Rattle.std.proofs.Common.{◌≡◌, sym, ap, ◌∙◌, subst, List, ℕ}
-use Rattle.turnstile.specs.declared.view.View.{View}
+use Rattle.std.proofs.Common.{◌≡◌, sym, ap, ◌∙◌, subst}
 use Rattle.turnstile.specs.Steps.{Sat}
 use Rattle.turnstile.specs.Passes.{view, IsSound}
 use Rattle.turnstile.proofs.Passes.{same_pass, sound_outcome, word_of_another}
