@@ -1,0 +1,11 @@
+pub mod Sums
+pub mod Rising
+pub mod Pigeons
+pub mod Begins
+pub mod Changes
+pub mod Turning
+pub mod Holding
+pub mod Joining
+pub mod Passes
+pub mod Slots
+pub mod Gathering
