@@ -1,11 +1,12 @@
 -- A control message that is read is spelled by its payload, and what is spelled is read again.
-use Rattle.std.proofs.Common.{◌≡◌, ℕ, ◌^◌, ◌<◌, ◌≤◌, Bool, true, false, cond, eqb, ltb, ◌&&◌, List, [], ◌++◌, length, drop, Option, Some, None, Result, Ok, Err, refl, sym, ap, ◌∙◌, subst, ◌⊎◌, inl, inr, arith, lit<}
+use Rattle.std.proofs.Common.{◌≡◌, ℕ, ◌+◌, ◌^◌, ◌<◌, ◌≤◌, Bool, true, false, cond, eqb, ltb, ◌&&◌, List, [], ◌++◌, length, drop, Option, Some, None, Result, Ok, Err, refl, sym, ap, ◌∙◌, subst, ◌⊎◌, inl, inr, arith, lit<}
 use Rattle.std.specs.Prelude.{IfOk}
 use Rattle.std.proofs.lemmas.Bool.{and_parts, eqb-true, ltb-false, le-ltb, eq-eqb, ne_eqb, cases_eq}
 use Rattle.std.proofs.lemmas.List.{length-drop, nil_from_length}
 use Rattle.byteorder.specs.Endian.{little_bytes}
 use Rattle.byteorder.specs.Numbers.{little_number-reads_back}
 use Rattle.kernel_values.specs.Words.{is_path}
+use Rattle.kernel_values.specs.declared.items.NoMemory.{NoMemory}
 use Rattle.tipc_proto.specs.declared.controls.Control.{Control}
 use Rattle.tipc_proto.specs.declared.controls.Control.TheVariants.{GoOnline, GoOffline, ConnReq, ConnRsp, DiscReq}
 use Rattle.tipc_proto.specs.declared.faults.FrameFault.{FrameFault}
@@ -173,6 +174,23 @@ control_again payload (ConnRsp target status remote size count) h =
 control_again payload (DiscReq target) h =
     let long = leave_long target in
     ap control_in h.0 ∙ message_again 5 (leave_body target) (lit< tt) (omega arith) (ap (λ (n : ℕ). Some n) (sym long)) ∙ leave_again target h.1
+
+message_long : (kind : ℕ) (body : List ℕ) → length (message kind body) ≡ 8 + length body
+unfolding message
+message_long kind body = omega arith
+
+-- no control message is longer than a request
+pub control_short : (payload : List ℕ) (c : Control) → IsControl payload c → length payload ≤ 264
+control_short payload GoOnline h = omega (arith, ap length h, message_long 1 [])
+control_short payload GoOffline h = omega (arith, ap length h, message_long 2 [])
+control_short payload (ConnReq path) h = omega (arith, ap length h.0, message_long 3 (name_field path), field_long path h.1)
+control_short payload (ConnRsp target status remote size count) h =
+    omega (arith, ap length h.0, message_long 4 (answer_body target status remote size count), answer_long target status remote size count)
+control_short payload (DiscReq target) h = omega (arith, ap length h.0, message_long 5 (leave_body target), leave_long target)
+
+pub written_short : (r : Result (List ℕ) NoMemory) (c : Control) → IfOk r (λ bytes. IsControl bytes c) → IfOk r (λ bytes. length bytes ≤ 264)
+written_short (Ok bytes) c h = control_short bytes c h
+written_short (Err refused) c h = tt
 
 pub control_found : (payload : List ℕ) (r : Result Control FrameFault) → IsBytes payload → r ≡ control_in payload → IfOk r (λ c. IsControl payload c)
 control_found payload (Ok c) fits e = control_takes payload c fits (sym e)

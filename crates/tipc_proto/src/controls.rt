@@ -56,9 +56,16 @@ pub fn control_of(payload: &[u8]) -> Result<Control, FrameFault>
     read_control(payload)
 }
 
-/// The one spelling of a control message, the payload of a frame.
-#[tactic(auto, unfolding(crate::specs::Controls::message))]
+/// The one spelling of a control message, the payload of a frame. It has at most 264 bytes.
 pub fn write_control(alloc: Global, control: &Control) -> Result<Bytes, NoMemory>
+    ensures spelled { IfOk result (λ bytes. IsControl bytes control.now) }
+    ensures short { IfOk result (λ bytes. length bytes ≤ 264) }
+{
+    write_any(alloc, control)
+}
+
+#[tactic(auto, unfolding(crate::specs::Controls::message))]
+fn write_any(alloc: Global, control: &Control) -> Result<Bytes, NoMemory>
     ensures { IfOk result (λ bytes. IsControl bytes control.now) }
 {
     match control {

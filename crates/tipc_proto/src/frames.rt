@@ -1,4 +1,4 @@
-ghost use Rattle.std.specs.Prelude.{◌≡◌, ℕ, List, length, drop, IfOk};
+ghost use Rattle.std.specs.Prelude.{◌≡◌, ◌+◌, ℕ, List, length, drop, IfOk};
 ghost use Rattle.tipc_proto.specs.declared.frames.Frame.{Frame};
 ghost use Rattle.tipc_proto.specs.Frames.{IsFrame, frame_in};
 
@@ -36,7 +36,8 @@ pub fn frame_of(bytes: &[u8]) -> Result<Frame, FrameFault>
 #[tactic(auto, unfolding(crate::specs::Frames::header))]
 pub fn write_frame(alloc: Global, frame: &Frame, payload: &[u8]) -> Result<Bytes, NoMemory>
     requires { length payload.now ≡ frame.now.len }
-    ensures { IfOk result (λ bytes. IsFrame bytes frame.now payload.now) }
+    ensures spelled { IfOk result (λ bytes. IsFrame bytes frame.now payload.now) }
+    ensures long { IfOk result (λ bytes. length bytes ≡ 16 + length payload.now) }
 {
     let mut out = Bytes::new(alloc);
     append_u32(&mut out, frame.src)?;
