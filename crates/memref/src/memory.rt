@@ -35,6 +35,7 @@ impl Model for MemRef {
 pub enum MemRefused {
     /// The size is not 1 to `MEMORY_LIMIT`.
     InvalidArgs,
+    /// Memory for the bytes was refused.
     NoMemory,
 }
 

@@ -7,9 +7,9 @@ use Rattle.std.proofs.lemmas.Grind.{common_steps}
 -- the front of a list, found again in front of others
 pub front_again : (xs ys : List ℕ) (n : ℕ) → n ≤ length xs → take n (take n xs ++ ys) ≡ take n xs
 front_again xs ys n h =
-  let same : length (take n xs) ≡ n = grind (arith, common_steps) in
-  let P : ℕ → Type 0 = λ k. take k (take n xs ++ ys) ≡ take n xs in
-  subst P same (take-append_seam (take n xs) ys)
+    let same : length (take n xs) ≡ n = grind (arith, common_steps) in
+    let P : ℕ → Type 0 = λ k. take k (take n xs ++ ys) ≡ take n xs in
+    subst P same (take-append_seam (take n xs) ys)
 
 -- the bytes in the buffer are those that left the feed
 pub feed_taken : (bytes buf : List ℕ) (at n : ℕ) → take n buf ≡ take n (drop at bytes) → drop at bytes ≡ take n buf ++ drop (at + n) bytes

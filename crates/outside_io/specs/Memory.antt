@@ -51,8 +51,8 @@ pub record PlannedFeed : Type 0 where
 
 abbrev pub after_planned_read : PlannedFeed → ℕ → PlannedFeed
 after_planned_read source room = if fails_next source.plan
-  then record source { plan = went_on source.plan; faults = later source.faults }
-  else record source { plan = went_on source.plan; feed = fed source.feed room }
+    then record source { plan = went_on source.plan; faults = later source.faults }
+    else record source { plan = went_on source.plan; feed = fed source.feed room }
 
 -- a sink whose calls fail by a plan, and which takes at most `piece` bytes a write
 pub record PlannedSheet : Type 0 where
@@ -66,4 +66,5 @@ planned_write_fails sink = fails_next sink.plan || is_full sink.sheet
 abbrev pub after_planned_write : PlannedSheet → List ℕ → PlannedSheet
 after_planned_write sink bytes = record sink {
   plan = went_on sink.plan;
-  sheet = if fails_next sink.plan then spoiled sink.sheet else after_write sink.sheet (take sink.piece bytes) }
+  sheet = if fails_next sink.plan then spoiled sink.sheet else after_write sink.sheet (take sink.piece bytes);
+}

@@ -1,5 +1,5 @@
 -- The calls of a source or a sink that are to fail.
-use Rattle.std.specs.Prelude.{◌==◌, ℕ, Bool, List}
+use Rattle.std.specs.Prelude.{◌==◌, Bool}
 use Rattle.std.specs.List.{list_any}
 use Rattle.outside_io.specs.Faults.{later}
 use Rattle.outside_io.specs.declared.plan.Plan.{Plan}

@@ -24,19 +24,27 @@ pub struct MemSource {
 
 impl Model for MemSource {
     ghost use Rattle.outside_io.specs.Memory.{PlannedFeed};
+
     ghost Value = { PlannedFeed };
+
     ghost view = { λ s. record { feed = s.feed; plan = s.plan; faults = s.faults } };
 }
 
 impl MemSource {
     /// A source of these bytes, which moves at most `piece` of them a read. The reads whose
     /// numbers, from 0, are in `fails` fail.
-    pub fn new(alloc: Global, bytes: &[u8], piece: u32, fails: &[u64]) -> Result<MemSource, NoMemory>
+    pub fn new(
+        alloc: Global,
+        bytes: &[u8],
+        piece: u32,
+        fails: &[u64],
+    ) -> Result<MemSource, NoMemory>
         requires { 1 ≤ piece }
         ensures { IfOk result (λ source. source ≡ record {
-            feed = record { left = bytes.now; piece = piece };
-            plan = record { fails = fails.now; calls = 0 };
-            faults = 0 }) }
+          feed = record { left = bytes.now; piece = piece };
+          plan = record { fails = fails.now; calls = 0 };
+          faults = 0;
+        }) }
     {
         Ok(MemSource {
             feed: QuietSource::new(alloc, bytes, piece)?,
@@ -91,8 +99,11 @@ pub struct MemSink {
 impl Model for MemSink {
     ghost use Rattle.std.specs.Prelude.{◌≤◌};
     ghost use Rattle.outside_io.specs.Memory.{PlannedSheet};
+
     ghost Value = { PlannedSheet };
+
     ghost view = { λ s. record { sheet = s.sheet; piece = s.piece; plan = s.plan } };
+
     ghost invariant = { λ s. 1 ≤ s.piece };
 }
 
@@ -102,9 +113,10 @@ impl MemSink {
     pub fn new(alloc: Global, room: u32, piece: u32, fails: &[u64]) -> Result<MemSink, NoMemory>
         requires { 1 ≤ piece }
         ensures { IfOk result (λ sink. sink ≡ record {
-            sheet = record { written = []; room = room; faults = 0 };
-            piece = piece;
-            plan = record { fails = fails.now; calls = 0 } }) }
+          sheet = record { written = []; room = room; faults = 0 };
+          piece = piece;
+          plan = record { fails = fails.now; calls = 0 };
+        }) }
     {
         Ok(MemSink {
             sheet: QuietSink::new(alloc, room)?,

@@ -14,6 +14,7 @@ pub struct Plan {
 }
 
 impl Plan {
+    /// A plan of the calls that are to fail, before the first call.
     pub fn new(alloc: Global, fails: &[u64]) -> Result<Plan, NoMemory>
         ensures { IfOk result (λ plan. plan ≡ record { fails = fails.now; calls = 0 }) }
     {

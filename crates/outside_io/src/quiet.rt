@@ -23,8 +23,11 @@ pub struct QuietSource {
 impl Model for QuietSource {
     ghost use Rattle.std.specs.Prelude.{drop, ◌≤◌, vec_len};
     ghost use Rattle.outside_io.specs.Memory.{Feed};
+
     ghost Value = { Feed };
+
     ghost view = { λ s. record { left = drop s.at s.bytes.items; piece = s.piece } };
+
     ghost invariant = { λ s. (s.at ≤ vec_len s.bytes) × (1 ≤ s.piece) };
 }
 
@@ -95,8 +98,11 @@ pub struct QuietSink {
 impl Model for QuietSink {
     ghost use Rattle.std.specs.Prelude.{◌+◌, ◌≤◌, vec_len, vec_capacity};
     ghost use Rattle.outside_io.specs.Memory.{Sheet};
+
     ghost Value = { Sheet };
+
     ghost view = { λ s. record { written = s.bytes.items; room = s.room; faults = s.faults } };
+
     ghost invariant = { λ s. vec_len s.bytes + s.room ≤ vec_capacity s.bytes };
 }
 

@@ -42,11 +42,13 @@ pub enum ReadRefused {
     Failed,
     /// There were more bytes than `INPUT_LIMIT`.
     TooLong,
+    /// Memory for what was read was refused.
     NoMemory,
 }
 
 impl From<Failed> for ReadRefused {
     ghost use Rattle.outside_io.specs.declared.reading.ReadRefused.{ReadRefused};
+
     ghost from_gives = { λ _ r. r ≡ ReadRefused.Failed };
 
     fn from(_: Failed) -> Self {
@@ -56,6 +58,7 @@ impl From<Failed> for ReadRefused {
 
 impl From<AllocError> for ReadRefused {
     ghost use Rattle.outside_io.specs.declared.reading.ReadRefused.{ReadRefused};
+
     ghost from_gives = { λ _ r. r ≡ ReadRefused.NoMemory };
 
     fn from(_: AllocError) -> Self {

@@ -13,6 +13,7 @@ pub struct StdSource<R> {
 }
 
 impl<R: Read> StdSource<R> {
+    /// A source over this reader, none of whose reads has failed.
     pub fn new(reader: R) -> StdSource<R>
         ensures reader { result.reader ≡ reader }
         ensures faults { result.faults ≡ 0 }
@@ -46,6 +47,7 @@ pub struct StdSink<W> {
 }
 
 impl<W: Write> StdSink<W> {
+    /// A sink over this writer, none of whose writes has failed.
     pub fn new(writer: W) -> StdSink<W>
         ensures writer { result.writer ≡ writer }
         ensures faults { result.faults ≡ 0 }
