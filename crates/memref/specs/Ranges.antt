@@ -22,8 +22,8 @@ read_refusal memory offset len = if is_within memory.bytes offset len then None 
 -- why a range may not be written: the range is looked at first, and then the flag
 abbrev pub write_refusal : MemoryRef → ℕ → ℕ → Option Errno
 write_refusal memory offset len = if is_within memory.bytes offset len
-  then (if is_writable memory then None else Some errno.AccessDenied)
-  else Some errno.InvalidArgs
+    then (if is_writable memory then None else Some errno.AccessDenied)
+    else Some errno.InvalidArgs
 
 -- Ok where nothing refuses
 abbrev pub answer_of : Option Errno → Result (Unit {0}) Errno

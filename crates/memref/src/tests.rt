@@ -27,8 +27,18 @@ fn ranges_and_flags(rt: HostRuntime) -> Result<(), Fail> {
 
 #[test]
 fn sizes(rt: HostRuntime) -> Result<(), Fail> {
-    assert!(rt; matches!(MemRef::new(rt.alloc(), 0, MemFlags::WRITE), Err(MemRefused::InvalidArgs)));
-    assert!(rt; matches!(MemRef::new(rt.alloc(), 65_537, MemFlags::WRITE), Err(MemRefused::InvalidArgs)));
+    assert!(rt;
+        matches!(
+            MemRef::new(rt.alloc(), 0, MemFlags::WRITE),
+            Err(MemRefused::InvalidArgs)
+        )
+    );
+    assert!(rt;
+        matches!(
+            MemRef::new(rt.alloc(), 65_537, MemFlags::WRITE),
+            Err(MemRefused::InvalidArgs)
+        )
+    );
     assert!(rt; MemRef::new(rt.alloc(), 65_536, MemFlags::WRITE)?.size() == 65_536);
     Ok(())
 }

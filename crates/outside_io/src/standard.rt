@@ -1,5 +1,6 @@
-// The real input and output. They tell nothing of what they hold, and count their failures.
-ghost use Rattle.std.specs.Prelude.{◌≡◌, None};
+// The real input and output, which count their failures. They tell what their reader or writer
+// tells, which for the standard input and output is nothing.
+ghost use Rattle.std.specs.Prelude.{◌≡◌};
 
 use crate::faults::counted;
 use crate::{Failed, Sink, Source};
@@ -23,7 +24,7 @@ impl<R: Read> StdSource<R> {
 }
 
 impl<R: Read> Source for StdSource<R> {
-    ghost left = { λ s. None };
+    ghost left = { λ s. R.remaining s.reader };
 
     ghost faults = { λ s. s.faults };
 
@@ -57,10 +58,11 @@ impl<W: Write> StdSink<W> {
 }
 
 impl<W: Write> Sink for StdSink<W> {
-    ghost written = { λ s. None };
+    ghost written = { λ s. W.contents s.writer };
 
     ghost faults = { λ s. s.faults };
 
+    #[tactic(auto, using(crate::proofs::Known::kept_by_nothing))]
     fn write(&mut self, bytes: &[u8]) -> Result<usize, Failed> {
         match self.writer.write(bytes) {
             Ok(count) if count > 0 => Ok(count),
