@@ -1,5 +1,5 @@
 // A memory reference's bytes and flag.
-ghost use Rattle.std.specs.Prelude.{◌≡◌, ◌+◌, ◌≤◌, ◌↔◌, ◌++◌, ℕ, length, take, drop, replicate, vec_len, false, IfOk, OnOk, OnErr};
+ghost use Rattle.std.specs.Prelude.{◌≡◌, ◌+◌, ◌≤◌, ◌↔◌, length, replicate, vec_len, false, IfOk, OnOk, OnErr};
 ghost use Rattle.kernel_values.specs.declared.state.MemoryRef.{MemoryRef};
 ghost use Rattle.memref.specs.Ranges.{is_lawful_size, read_refusal, write_refusal, answer_of, part, overwritten};
 

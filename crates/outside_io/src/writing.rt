@@ -1,5 +1,5 @@
 // A place that bytes are written to, and the loop that writes all of a text.
-ghost use Rattle.std.specs.Prelude.{◌≡◌, ℕ, ◌+◌, ◌<◌, ◌≤◌, List, length, Option, IfOk, OnOk, OnErr};
+ghost use Rattle.std.specs.Prelude.{ℕ, ◌+◌, ◌<◌, ◌≤◌, List, length, Option, OnOk, OnErr};
 ghost use Rattle.std.specs.Io.KnownBytes.{Appends, WriteAppends};
 ghost use Rattle.outside_io.specs.Faults.{HasCause};
 ghost use Rattle.outside_io.specs.Writing.{AppendsFront, TakesSome};
