@@ -1,0 +1,44 @@
+-- A port, a connect that answers at once, an accept, closes, and a connect to a path that nobody serves.
+use Rattle.std.specs.Prelude.{◌≡◌, [], ◌∷◌, refl, codes}
+use Rattle.kernel_values.specs.declared.call.Call.TheVariants as call
+use Rattle.kernel_values.specs.declared.reply.Reply.TheVariants as reply
+use Rattle.kernel_values.specs.declared.reply.Answer.TheVariants as answer
+use Rattle.kernel_values.specs.declared.errno.Errno.TheVariants as errno
+use Rattle.kernel_values.specs.SceneLaw.{SceneValue}
+use Rattle.kernel_types.specs.OnLiterals.{kernel_on_literals}
+use Rattle.kernel_types.specs.Serial.{serial_run}
+use Rattle.worked_scenes.specs.Scenes.{scene_of, app, plain_manifest, line}
+use Rattle.worked_scenes.specs.Shown.{told}
+use Rattle.worked_scenes.specs.Shown.Shown.{Called}
+
+abbrev scene : SceneValue
+scene = scene_of (
+    app (codes "server") (plain_manifest 1)
+    (
+    (
+    line (call.PortCreate (codes "svc") 2 16 (record { 0 = 1 })) [] (0 ∷ []) ∷
+    line (call.Accept 4294967295) ((0, 0) ∷ []) (1 ∷ []) ∷
+    line (call.Close 4294967295) ((0, 1) ∷ []) [] ∷
+    line (call.Close 4294967295) ((0, 0) ∷ []) [] ∷ []) ∷ []) ∷
+    app (codes "client") (plain_manifest 2)
+    (
+    (
+    line (call.Connect (codes "svc") (record { 0 = 2 })) [] (0 ∷ []) ∷
+    line (call.Close 4294967295) ((0, 0) ∷ []) [] ∷
+    line (call.Connect (codes "nosuch") (record { 0 = 2 })) [] (1 ∷ []) ∷ []) ∷ []) ∷ [])
+
+history : told (serial_run scene) ≡ record {
+  entries = (
+      Called 0 (call.PortCreate (codes "svc") 2 16 (record { 0 = 1 })) (answer.Gives (reply.Handle 0)) ∷
+      Called 1 (call.Connect (codes "svc") (record { 0 = 2 })) (answer.Gives (reply.Handle 0)) ∷
+      Called 0 (call.Accept 0) (answer.Gives (reply.Accepted 1 2)) ∷
+      Called 1 (call.Close 0) (answer.Gives reply.Done) ∷
+      Called 0 (call.Close 1) (answer.Gives reply.Done) ∷
+      Called 1 (call.Connect (codes "nosuch") (record { 0 = 2 })) (answer.Refuses errno.NotFound) ∷
+      Called 0 (call.Close 0) (answer.Gives reply.Done) ∷
+      Called 1 (call.Finish) (answer.Gives reply.Done) ∷
+      Called 0 (call.Finish) (answer.Gives reply.Done) ∷ []);
+  facts = record { clock = 0; objects = 0; names = 0 };
+}
+unfolding kernel_on_literals
+history = refl

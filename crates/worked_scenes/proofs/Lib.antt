@@ -1,0 +1,16 @@
+mod CirclesAndDepth
+mod ClockMovesToDeadlines
+mod ConnectAcceptClose
+mod ConnectStartsItsServer
+mod ExitInTheMiddle
+mod FourStarts
+mod IdleCancels
+mod LeastFreeIds
+mod MemoryInAMessage
+mod OneSlot
+mod PeerClosesFirst
+mod RequestAndReply
+mod SenderBlocks
+mod SetInASet
+mod WaitKeepsItsNumber
+mod WaitedEndLives
