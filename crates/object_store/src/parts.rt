@@ -1,6 +1,6 @@
 //! A short list of keys, held in place.
 
-ghost use Rattle.std.specs.Prelude.{◌≡◌, ◌<◌, ◌++◌, ◌∷◌, [], length};
+ghost use Rattle.std.specs.Prelude.{◌≡◌, ◌<◌, ◌≤◌, ◌++◌, ◌∷◌, [], length};
 ghost use Rattle.object_store.specs.Keys.{serials};
 
 use crate::key::ObjKey;
@@ -51,8 +51,17 @@ impl Parts {
     pub fn as_slice(&self) -> &[ObjKey]
         ensures keys { serials result.now ≡ self.now }
         ensures len { length result.now ≡ length self.now }
+        ensures most { length result.now ≤ 8 }
     {
         &self.keys[..self.len]
+    }
+
+    /// How many keys there are.
+    pub fn len(&self) -> u32
+        ensures value { result ≡ length self.now }
+        ensures most { result ≤ 8 }
+    {
+        self.as_slice().len() as u32
     }
 
     /// The same keys once more.
