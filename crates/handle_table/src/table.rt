@@ -1,6 +1,6 @@
 //! A table of 64 places, with a bit for each place in use.
 
-ghost use Rattle.std.specs.Prelude.{◌≡◌, ◌<◌, ◌≤◌, ◌+◌, ◌^◌, ◌==◌, ◌↔◌, ℕ, List, [], length, true, false, Some, None, option_map, is_some, IfOk, IfErr, IfSome, IfNone, OnOk, OnErr};
+ghost use Rattle.std.specs.Prelude.{◌≡◌, ◌<◌, ◌≤◌, ◌+◌, ◌==◌, ℕ, List, [], length, true, false, Some, None, option_map, is_some, IfOk, IfSome, IfNone, OnOk, OnErr};
 ghost use Rattle.std.specs.Result.{result_err};
 ghost use Rattle.std.specs.Int.{bit_at};
 ghost use Rattle.handle_table.specs.Tables.{entry_at, free_handle, installed, without, with_cookie, next_handle, doubled, dup_refusal, IsTableFrom};

@@ -1,15 +1,13 @@
 -- What keeps the places in order, and what a change of the places makes of the messages.
-use Rattle.std.proofs.Common.{◌≡◌, ◌≢◌, ◌⊎◌, ◌||◌, ◌==◌, ℕ, zero, suc, ◌+◌, ◌<◌, ◌≤◌, Bool, true, false, not, cond, List, [], ◌∷◌, ◌++◌, length, map, filter, find, take, drop, get_or, set, slice_get, Option, Some, None, refl, sym, ap, ◌∙◌, inl, inr, subst, arith, length-append}
-use Rattle.std.proofs.lemmas.Bool.{cases_eq, cases_lt}
+use Rattle.std.proofs.Common.{◌≡◌, ◌≢◌, ◌||◌, ℕ, zero, suc, ◌+◌, ◌<◌, ◌≤◌, Bool, true, false, not, cond, List, [], ◌∷◌, ◌++◌, length, find, get_or, set, slice_get, Option, Some, None, refl, sym, ap, ◌∙◌, subst, arith}
 use Rattle.std.proofs.lemmas.Bool.Decides.{nat_tests}
 use Rattle.std.specs.List.{list_any, position, position_or_len, remove}
-use Rattle.std.specs.Option.{option_map}
 use Rattle.std.specs.Vec.{vec_capacity}
 use Rattle.kernel_values.specs.declared.state.Message.{Message}
 use Rattle.msg_queue.specs.declared.place.Place.{Place}
-use Rattle.msg_queue.specs.Messages.{has_id, is_filled, is_opened_as, is_other, without_opened, opened_as, free_id, with_opened, set_if, map_at}
+use Rattle.msg_queue.specs.Messages.{has_id, is_filled, is_opened_as, without_opened, opened_as, free_id, with_opened}
 use Rattle.msg_queue.specs.Places.{message_of, messages_of, AllHold, IdsApart}
-use Rattle.msg_queue.proofs.Searches.{any_of, found_message, found_place, no_message, no_place, none_any, some_any, position_some, get_in, get_past, length_of_messages}
+use Rattle.msg_queue.proofs.Searches.{found_message, found_place, no_message, no_place, none_any, some_any, position_some, get_past}
 
 -- a search that found a place, or none
 module _ (t : Message → Bool) (ps qs : List Place) (same : qs ≡ ps) where

@@ -1,14 +1,12 @@
 -- Searches of the places are searches of the messages.
-use Rattle.std.proofs.Common.{◌≡◌, ◌≢◌, ◌⊎◌, ◌||◌, ◌&&◌, ◌==◌, ℕ, zero, suc, ◌+◌, ◌<◌, ◌≤◌, Bool, true, false, not, cond, List, [], ◌∷◌, ◌++◌, length, map, filter, find, take, drop, count_by, sum_by, get_or, slice_get, nat_lt, Option, Some, None, is_some, refl, sym, ap, ◌∙◌, inl, inr, subst, arith}
-use Rattle.std.proofs.lemmas.Bool.{cases_eq, cases_lt}
+use Rattle.std.proofs.Common.{◌≡◌, ◌⊎◌, ◌||◌, ℕ, zero, suc, ◌+◌, ◌<◌, Bool, true, false, not, cond, List, [], ◌∷◌, length, find, count_by, get_or, slice_get, nat_lt, Some, None, refl, sym, ap, ◌∙◌, inl, inr, subst, arith}
 use Rattle.std.proofs.lemmas.Bool.Decides.{nat_tests}
 use Rattle.std.proofs.lemmas.List.Folds.{find_at}
 use Rattle.std.proofs.lemmas.List.Sums.{sum_by-cons}
-use Rattle.std.specs.List.{list_any, position, position_or_len, range_with_len}
-use Rattle.std.specs.Option.{option_map, unwrap_or}
+use Rattle.std.specs.List.{list_any, position, position_or_len}
+use Rattle.std.specs.Option.{option_map}
 use Rattle.kernel_values.specs.declared.state.Message.{Message}
 use Rattle.msg_queue.specs.declared.place.Place.{Place}
-use Rattle.msg_queue.specs.Messages.{is_opened_as, is_free_id, free_id}
 use Rattle.msg_queue.specs.Places.{message_of, messages_of}
 
 module _ (t : Message → Bool) where

@@ -1,6 +1,6 @@
 //! One place for a message, with a buffer that it keeps.
 
-ghost use Rattle.std.specs.Prelude.{◌≡◌, ◌≤◌, ◌<◌, ◌+◌, ◌^◌, ◌++◌, [], length, count_by, min, take, drop, Some, None, IfOk, IsOk, vec_capacity, vec_len};
+ghost use Rattle.std.specs.Prelude.{◌≡◌, ◌≤◌, ◌<◌, ◌+◌, [], length, count_by, min, Some, None, IfOk, vec_capacity};
 ghost use Rattle.std.specs.List.{position};
 ghost use Rattle.msg_queue.specs.Messages.{is_filled, is_opened_as, overwritten, read_count, read_out, free_id};
 ghost use Rattle.msg_queue.specs.Places.{message_of, messages_of};

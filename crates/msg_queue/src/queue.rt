@@ -1,7 +1,7 @@
 //! The queue of one end.
 
-ghost use Rattle.std.specs.Prelude.{◌≡◌, ◌≤◌, ◌<◌, ◌+◌, ◌-◌, ◌^◌, [], length, Some, None, option_map, count_by, not, IfOk, OnOk, OnErr, OnSome, IfNone};
-ghost use Rattle.msg_queue.specs.Messages.{Queued, is_filled, first_filled, opened_at, free_id, pushed, with_opened, opened_answer, without_opened, retired_answer, overwritten, read_count, read_out, length_of, parts_of};
+ghost use Rattle.std.specs.Prelude.{◌≡◌, ◌≤◌, ◌<◌, ◌+◌, ◌-◌, ◌^◌, [], length, Some, None, option_map, count_by, IfOk, OnOk, OnErr};
+ghost use Rattle.msg_queue.specs.Messages.{Queued, is_filled, first_filled, opened_at, free_id, pushed, with_opened, opened_answer, without_opened, retired_answer, read_count, read_out, length_of, parts_of};
 
 use crate::place::{Place, filled_count, filled_place, least_free_id, opened_place};
 use kernel_values::NoMemory;

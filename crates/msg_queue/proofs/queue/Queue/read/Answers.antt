@@ -1,14 +1,6 @@
-use Rattle.std.proofs.Common.{◌≡◌, ◌≢◌, ◌<◌, ◌≤◌, ◌+◌, ◌-◌, ◌^◌, ◌∷◌, ◌++◌, ℕ, List, [], length, Bool, true, false, not, cond, Option, Some, None, get_or, refl, sym, ap, ◌∙◌, inl, inr, subst, arith, rules, length-append}
-use Rattle.std.proofs.lemmas.List.Sums.{count_by-le-length}
-use Rattle.std.specs.List.{list_any, position}
-use Rattle.std.specs.Option.{option_map}
-use Rattle.std.specs.Vec.{vec_capacity, vec_len}
-use Rattle.msg_queue.specs.declared.place.Place.{Place}
-use Rattle.msg_queue.specs.Messages.{is_filled, is_opened_as, free_id, with_opened, opened_answer, retired_answer, read_count, read_out, length_of, parts_of, without_opened}
-use Rattle.msg_queue.specs.Places.{message_of, messages_of, AllHold, IdsApart, IsQueue}
-use Rattle.msg_queue.proofs.Searches.{count_of, length_of_messages}
-use Rattle.msg_queue.proofs.Ids.{free_id_is_free, free_id_found, free_id_none}
-use Rattle.msg_queue.proofs.Places.{found_here, within_here, place_here, some_here, none_here, nowhere_here, no_any_here, hold_at, hold_push, hold_front, hold_set, hold_remove, messages_push, opened_set, opened_none, apart_push, apart_set, apart_remove, others_only, retired_is}
+use Rattle.std.proofs.Common.{◌-◌, refl}
+use Rattle.msg_queue.specs.Messages.{is_opened_as}
+use Rattle.msg_queue.proofs.Places.{found_here, none_here}
 use Rattle.msg_queue.proofs.queue.Queue.read.Goals as goal
 
 pub returns-in-Some-clause-count : goal.returns-in-Some-clause-count
