@@ -1,9 +1,33 @@
--- Tests of one item, each under one name: a loop that takes the items that pass then goes by the name.
-use Rattle.std.specs.Prelude.{ℕ, Bool, List}
+-- Tests and searches under one name each: a loop that takes the items that pass then goes by the name.
+use Rattle.std.specs.Prelude.{ℕ, Bool, List, Option, slice_get, not}
+use Rattle.std.specs.List.{find}
 use Rattle.kernel_values.specs.declared.state.Object.{Object}
+use Rattle.kernel_values.specs.declared.state.CoreState.{CoreState}
+use Rattle.kernel_values.specs.declared.state.TableEntry.{TableEntry}
 use Rattle.kernel_types.specs.Objects.{end_of}
 use Rattle.kernel_types.specs.Sweep.{has_marked_peer}
+use Rattle.kernel_types.specs.Reports.{is_after, in_turn, last_of, has_events}
+use Rattle.kernel_types.specs.Tables.{table_of}
+use Rattle.kernel_types.specs.Ports.{server_of, new_server}
+use Rattle.kernel_values.specs.declared.state.Port.{Port}
 
 -- whether the peer of a pending server end is marked
 unfoldable pub is_served : List ℕ → List Object → ℕ → Bool
 is_served marked objects server = has_marked_peer marked (end_of objects server)
+
+unfoldable pub is_later_entry : Option ℕ → TableEntry → Bool
+is_later_entry last entry = is_after last entry
+
+unfoldable pub is_earlier_entry : Option ℕ → TableEntry → Bool
+is_earlier_entry last entry = not (is_after last entry)
+
+-- the entry that a `waitany` would report
+unfoldable pub entry_in_turn : CoreState → ℕ → Option TableEntry
+entry_in_turn c app = find (has_events c.objects) (in_turn (last_of (slice_get c.apps app)) (table_of c app))
+
+-- the number of a client's server end
+unfoldable pub server_number : ℕ → List ℕ → ℕ → ℕ
+server_number first clients client = server_of first clients client
+
+unfoldable pub server_object : Port → ℕ → List ℕ → ℕ → Object
+server_object port first clients client = new_server port first clients client

@@ -3,6 +3,7 @@
 ghost use Rattle.std.specs.Prelude.{◌≡◌};
 ghost use Rattle.kernel_types.specs.Objects.{new_end};
 ghost use Rattle.kernel_types.specs.Ports.{server_end};
+ghost use Rattle.kernel_types.specs.Events.{is_disconnected};
 
 use kernel_values::{Body, Bytes, ChannelEnd, Connector, EndState, Items};
 use std::alloc::Global;
@@ -41,4 +42,14 @@ pub fn server_end(alloc: Global, client: u64, slots: u32, size: u32) -> Body
     ensures { result ≡ server_end client slots size }
 {
     Body::End(new_end(alloc, Some(client), EndState::Connecting, None, None, slots, size))
+}
+
+/// Whether the other side is gone.
+pub fn is_disconnected(state: EndState) -> bool
+    ensures { result ≡ is_disconnected state }
+{
+    match state {
+        EndState::Disconnected => true,
+        EndState::Waiting | EndState::Connecting | EndState::Connected => false,
+    }
 }

@@ -30,7 +30,8 @@ pub fn is_object_there(objects: &[Object], id: u64) -> bool
     false
 }
 
-fn find_object(objects: &[Object], id: u64) -> Option<&Object>
+/// The object of this number, where it is there.
+pub fn find_object(objects: &[Object], id: u64) -> Option<&Object>
     ensures { option_copied result ≡ object_of objects.now id }
 {
     objects.get(place_of_object(objects, id))

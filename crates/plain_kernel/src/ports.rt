@@ -1,8 +1,9 @@
 //! A port is published, and the ends that wait for its path are decided.
 
 ghost use Rattle.std.specs.Prelude.{◌≡◌, IfOk, ◌==◌, OnOk, map, ◌++◌};
-ghost use Rattle.kernel_types.specs.Ports.{is_lawful_port, admits, admits_client, waits_for, end_is_admitted, admitted, server_of, decided_end, decided, new_server, publish_to, publish, port_create};
+ghost use Rattle.kernel_types.specs.Ports.{is_lawful_port, admits, admits_client, waits_for, end_is_admitted, admitted, decided_end, decided, publish_to, publish, port_create};
 ghost use Rattle.std.specs.List.{position_or_len};
+ghost use Rattle.plain_kernel.specs.Tests.{server_number, server_object};
 ghost use Rattle.plain_kernel.specs.Shown.{outcome};
 
 use crate::ends::server_end;
@@ -83,13 +84,15 @@ fn place_in(clients: &[u64], client: u64) -> usize
 }
 
 /// The number of a client's server end.
+#[tactic(auto, unfolding(crate::specs::Tests::server_number))]
 fn server_of(first: u64, clients: &[u64], client: u64) -> Result<u64, NoMemory>
-    ensures { IfOk result (λ server. server ≡ server_of first clients.now client) }
+    ensures { IfOk result (λ server. server ≡ server_number first clients.now client) }
 {
     later(first, place_in(clients, client) as u64)
 }
 
 /// An end that waits for the port is let in or denied; every other end stays.
+#[tactic(auto, unfolding(crate::specs::Tests::server_number))]
 fn decide_end(end: &mut ChannelEnd, port: &Port, first: u64, clients: &[u64], id: u64) -> Result<(), NoMemory>
     ensures { OnOk result (end.new ≡ decided_end port.now first clients.now id end.old) }
 {
@@ -130,7 +133,7 @@ fn all_decided(objects: &Items<Object>, port: &Port, first: u64, clients: &[u64]
 }
 
 fn all_servers(alloc: Global, first: u64, clients: &[u64]) -> Result<Items<u64>, NoMemory>
-    ensures { IfOk result (λ servers. servers ≡ map (server_of first clients.now) clients.now) }
+    ensures { IfOk result (λ servers. servers ≡ map (server_number first clients.now) clients.now) }
 {
     let mut servers = Items::new(alloc);
     for client in clients {
@@ -139,18 +142,28 @@ fn all_servers(alloc: Global, first: u64, clients: &[u64]) -> Result<Items<u64>,
     Ok(servers)
 }
 
+/// A client's server end under its number.
+#[tactic(auto, unfolding(crate::specs::Tests::server_number, crate::specs::Tests::server_object))]
+fn server_object(alloc: Global, port: &Port, first: u64, clients: &[u64], client: u64) -> Result<Object, NoMemory>
+    ensures { IfOk result (λ server. server ≡ server_object port.now first clients.now client) }
+{
+    Ok(Object {
+        id: server_of(first, clients, client)?,
+        body: server_end(alloc, client, port.bufs, port.size),
+    })
+}
+
 fn add_servers(objects: &mut Items<Object>, port: &Port, first: u64, clients: &[u64]) -> Result<(), NoMemory>
-    ensures { OnOk result (objects.new ≡ objects.old ++ map (new_server port.now first clients.now) clients.now) }
+    ensures { OnOk result (objects.new ≡ objects.old ++ map (server_object port.now first clients.now) clients.now) }
 {
     for client in clients {
-        let id = server_of(first, clients, *client)?;
-        let body = server_end(objects.allocator(), *client, port.bufs, port.size);
-        objects.push(Object { id, body })?;
+        objects.push(server_object(objects.allocator(), port, first, clients, *client)?)?;
     }
     Ok(())
 }
 
 /// The port gets the next number, and after it come the server ends, which are pending in that order.
+#[tactic(auto, unfolding(crate::specs::Tests::server_number, crate::specs::Tests::server_object))]
 fn publish_to(core: &mut CoreState, port: &Port, clients: &[u64]) -> Result<(), NoMemory>
     ensures { OnOk result (core.new ≡ publish_to clients.now port.now core.old) }
 {
