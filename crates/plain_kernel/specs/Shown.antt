@@ -1,5 +1,5 @@
 -- What the program's own values stand for.
-use Rattle.std.specs.Prelude.{ℕ, Option, Some, None, if◌then◌else◌}
+use Rattle.std.specs.Prelude.{ℕ, List, Option, Some, None, if◌then◌else◌}
 use Rattle.kernel_values.specs.declared.errno.Errno.{Errno}
 use Rattle.kernel_values.specs.declared.flags.ConnectFlags.{ConnectFlags}
 use Rattle.kernel_values.specs.declared.reply.Answer.TheVariants as answer
@@ -12,7 +12,7 @@ use Rattle.plain_kernel.specs.declared.told.Told.{Told}
 use Rattle.kernel_types.specs.Outcome.{Outcome, gives, no_seqs}
 use Rattle.kernel_types.specs.Tables.{install}
 use Rattle.kernel_types.specs.Threads.{waits_on}
-use Rattle.kernel_types.specs.Connects.{is_asynchronous}
+use Rattle.kernel_types.specs.Connects.{Way, connect_by, is_asynchronous}
 
 -- what was told, with the state that it left
 abbrev pub outcome : Told → CoreState → Outcome
@@ -36,3 +36,7 @@ abbrev pub connected_as : ℕ → ℕ → ℕ → ℕ → ConnectFlags → CoreS
 connected_as end handle thread app flags made =
     (if is_asynchronous flags then gives (reply.Handle handle) (install app end made)
     else waits_on thread (wait_on.Connect end handle) None (install app end made))
+
+-- a connect by a way that is not looked into
+unfoldable pub connect_way : Way → CoreState → ℕ → ℕ → List ℕ → ConnectFlags → Outcome
+connect_way way c thread app path flags = connect_by way c thread app path flags

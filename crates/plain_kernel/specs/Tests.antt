@@ -8,6 +8,10 @@ use Rattle.kernel_types.specs.Objects.{end_of}
 use Rattle.kernel_types.specs.Sweep.{has_marked_peer}
 use Rattle.kernel_types.specs.Reports.{is_after, in_turn, last_of, has_events}
 use Rattle.kernel_types.specs.Tables.{table_of}
+use Rattle.kernel_types.specs.Names.{Name, names_of}
+use Rattle.kernel_types.specs.Opening.{opening_threads}
+use Rattle.kernel_values.specs.declared.scene.App.{App}
+use Rattle.kernel_values.specs.declared.state.Thread.{Thread}
 use Rattle.kernel_types.specs.Ports.{server_of, new_server}
 use Rattle.kernel_values.specs.declared.state.Port.{Port}
 
@@ -31,3 +35,11 @@ server_number first clients client = server_of first clients client
 
 unfoldable pub server_object : Port → ℕ → List ℕ → ℕ → Object
 server_object port first clients client = new_server port first clients client
+
+-- how many entries name this object
+unfoldable pub names_on : List Name → Object → ℕ
+names_on names object = names_of names object.id
+
+-- the threads of the application at a place of the scene
+unfoldable pub place_threads : ℕ × App → List Thread
+place_threads p = opening_threads p

@@ -1,7 +1,7 @@
 //! `accept`, and how a connect that waits is decided.
 
 ghost use Rattle.std.specs.Prelude.{◌≡◌, OnOk, IfOk};
-ghost use Rattle.kernel_types.specs.Connects.{accepted_end, accept_client, uuid_of, peer_uuid, peer_of, accept_server, accept_pending, accept, unready, holds_end, decided_on, connect_decision};
+ghost use Rattle.kernel_types.specs.Connects.{accepted_end, accept_client, uuid_of, peer_uuid, peer_of, accept_server, accept, unready, holds_end, decided_on, connect_decision};
 ghost use Rattle.kernel_types.specs.Objects.{end_changed, port_changed, end_of};
 ghost use Rattle.plain_kernel.specs.Shown.{outcome, outcome_if};
 ghost use Rattle.kernel_types.specs.Tables.{entry_at, table_of};
@@ -102,20 +102,6 @@ fn accept_server(core: &mut CoreState, app: u32, port: u64, server: u64, rest: &
     Ok(gives(Reply::Accepted { handle, uuid }))
 }
 
-fn accept_pending(core: &mut CoreState, app: u32, port: u64, pending: &[u64]) -> Result<Told, NoMemory>
-    ensures { IfOk result (λ told. outcome told core.new ≡ accept_pending core.old app port pending.now) }
-{
-    match pending {
-        [] => Ok(refuses(Errno::NoMsg)),
-        [server, rest @ ..] => {
-            if is_full_table(table_of(core, app)) {
-                return Ok(refuses(Errno::NoResources));
-            }
-            accept_server(core, app, port, *server, rest)
-        }
-    }
-}
-
 /// The first pending server end of a port is installed.
 #[tactic(auto, unfolding(kernel_types::specs::Connects::accept))]
 pub fn accept_call(core: &mut CoreState, app: u32, handle: u32) -> Result<Told, NoMemory>
@@ -128,7 +114,13 @@ pub fn accept_call(core: &mut CoreState, app: u32, handle: u32) -> Result<Told, 
         return Ok(refuses(Errno::InvalidArgs));
     };
     let pending = port.pending.copied()?;
-    accept_pending(core, app, entry.object, pending.as_slice())
+    let [server, rest @ ..] = pending.as_slice() else {
+        return Ok(refuses(Errno::NoMsg));
+    };
+    if is_full_table(table_of(core, app)) {
+        return Ok(refuses(Errno::NoResources));
+    }
+    accept_server(core, app, entry.object, *server, rest)
 }
 
 /// The end is no longer ready.

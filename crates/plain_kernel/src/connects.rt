@@ -2,9 +2,9 @@
 //! nothing.
 
 ghost use Rattle.std.specs.Prelude.{◌≡◌, OnOk, ◌++◌, ◌∷◌, [], IfOk, slice_get};
-ghost use Rattle.kernel_types.specs.Connects.{waits_for_port, is_asynchronous, may_serve, pending_pair, waiting_client, connect_by, started_unless_running, connected, way_by_port, way_of, connect};
+ghost use Rattle.kernel_types.specs.Connects.{waits_for_port, is_asynchronous, may_serve, pending_pair, waiting_client, to_port, started_unless_running, connected, to_start, to_nothing, way_by_port, way_of, connect};
 ghost use Rattle.kernel_types.specs.Objects.{port_changed};
-ghost use Rattle.plain_kernel.specs.Shown.{outcome, connected_as};
+ghost use Rattle.plain_kernel.specs.Shown.{outcome, connected_as, connect_way};
 ghost use Rattle.kernel_values.specs.declared.state.Connector.TheVariants as connector;
 
 use crate::applications::{find_start_port, has_start_left, place_of_server, start_application};
@@ -84,8 +84,9 @@ fn connected(core: &mut CoreState, thread: u32, app: u32, flags: ConnectFlags, e
     Ok(begin_to_wait(core, thread, WaitOn::Connect { end, handle }, None))
 }
 
+#[tactic(auto, unfolding(crate::specs::Shown::connect_way))]
 fn connect_to_port(core: &mut CoreState, thread: u32, app: u32, path: &Bytes, flags: ConnectFlags, id: u64, port: &Port) -> Result<Told, NoMemory>
-    ensures { IfOk result (λ told. outcome told core.new ≡ connect_by (to_port id port.now) core.old thread app path.now flags) }
+    ensures { IfOk result (λ told. outcome told core.new ≡ connect_way (to_port id port.now) core.old thread app path.now flags) }
 {
     if !admits(port.flags, Connector::App(app)) {
         return Ok(refuses(Errno::AccessDenied));
@@ -123,8 +124,9 @@ fn connect_at_start(core: &mut CoreState, thread: u32, app: u32, path: &Bytes, f
     connected(core, thread, app, flags, end, handle)
 }
 
+#[tactic(auto, unfolding(crate::specs::Shown::connect_way))]
 fn connect_to_start(core: &mut CoreState, thread: u32, app: u32, path: &Bytes, flags: ConnectFlags, place: u32, start: PortFlags) -> Result<Told, NoMemory>
-    ensures { IfOk result (λ told. outcome told core.new ≡ connect_by (to_start place start) core.old thread app path.now flags) }
+    ensures { IfOk result (λ told. outcome told core.new ≡ connect_way (to_start place start) core.old thread app path.now flags) }
 {
     if !admits(start, Connector::App(app)) {
         return Ok(refuses(Errno::AccessDenied));
@@ -137,8 +139,9 @@ fn connect_to_start(core: &mut CoreState, thread: u32, app: u32, path: &Bytes, f
     Ok(told)
 }
 
+#[tactic(auto, unfolding(crate::specs::Shown::connect_way))]
 fn connect_to_nothing(core: &mut CoreState, thread: u32, app: u32, path: &Bytes, flags: ConnectFlags) -> Result<Told, NoMemory>
-    ensures { IfOk result (λ told. outcome told core.new ≡ connect_by to_nothing core.old thread app path.now flags) }
+    ensures { IfOk result (λ told. outcome told core.new ≡ connect_way to_nothing core.old thread app path.now flags) }
 {
     if !waits_for_port(flags) {
         return Ok(refuses(Errno::NotFound));
@@ -150,7 +153,7 @@ fn connect_to_nothing(core: &mut CoreState, thread: u32, app: u32, path: &Bytes,
 }
 
 /// A place as the number of an application; refused where it is out of their range.
-fn number_of_place(place: usize) -> Result<u32, NoMemory>
+pub fn number_of_place(place: usize) -> Result<u32, NoMemory>
     ensures { IfOk result (λ number. number ≡ place) }
 {
     if place > u32::MAX as usize {
@@ -161,7 +164,7 @@ fn number_of_place(place: usize) -> Result<u32, NoMemory>
 
 /// No port has the path.
 fn connect_to_app(core: &mut CoreState, thread: u32, app: u32, path: &Bytes, flags: ConnectFlags) -> Result<Told, NoMemory>
-    ensures { IfOk result (λ told. outcome told core.new ≡ connect_by (way_by_port path.now core.old None) core.old thread app path.now flags) }
+    ensures { IfOk result (λ told. outcome told core.new ≡ connect_way (way_by_port path.now core.old None) core.old thread app path.now flags) }
 {
     let place = place_of_server(core, path.as_slice());
     let Some(server) = core.apps.get(place) else {
@@ -175,25 +178,25 @@ fn connect_to_app(core: &mut CoreState, thread: u32, app: u32, path: &Bytes, fla
         return connect_to_nothing(core, thread, app, path, flags);
     }
     let number = number_of_place(place)?;
-    connect_to_start(core, thread, app, path, flags, number, start_flags)
+    Ok(connect_to_start(core, thread, app, path, flags, number, start_flags)?)
 }
 
 fn connect_on(core: &mut CoreState, thread: u32, app: u32, path: &Bytes, flags: ConnectFlags) -> Result<Told, NoMemory>
-    ensures { IfOk result (λ told. outcome told core.new ≡ connect_by (way_of core.old path.now) core.old thread app path.now flags) }
+    ensures { IfOk result (λ told. outcome told core.new ≡ connect_way (way_of core.old path.now) core.old thread app path.now flags) }
 {
     let Some(object) = find_published(core.objects.as_slice(), path.as_slice()) else {
-        return connect_to_app(core, thread, app, path, flags);
+        return Ok(connect_to_app(core, thread, app, path, flags)?);
     };
     let id = object.id;
     let body = object.body.copied()?;
     match &body {
-        Body::Port(port) => connect_to_port(core, thread, app, path, flags, id, port),
-        _ => connect_to_nothing(core, thread, app, path, flags),
+        Body::Port(port) => Ok(connect_to_port(core, thread, app, path, flags, id, port)?),
+        _ => Ok(connect_to_nothing(core, thread, app, path, flags)?),
     }
 }
 
 /// Connects to the port of a path.
-#[tactic(auto, unfolding(kernel_types::specs::Connects::connect))]
+#[tactic(auto, unfolding(kernel_types::specs::Connects::connect, crate::specs::Shown::connect_way))]
 pub fn connect_call(core: &mut CoreState, thread: u32, app: u32, path: &Bytes, flags: ConnectFlags) -> Result<Told, NoMemory>
     ensures { IfOk result (λ told. outcome told core.new ≡ connect core.old thread app path.now flags) }
 {

@@ -3,7 +3,8 @@
 ghost use Rattle.std.specs.Prelude.{◌≡◌, OnOk, ◌++◌, map, IfOk, sum_by, not};
 ghost use Rattle.kernel_types.specs.Step.{status_of, statuses, has_begun_and_goes_on, is_running};
 ghost use Rattle.plain_kernel.specs.Steps.{whole};
-ghost use Rattle.kernel_types.specs.Names.{names_of, naming};
+ghost use Rattle.plain_kernel.specs.Tests.{names_on};
+ghost use Rattle.kernel_types.specs.Names.{naming};
 ghost use Rattle.kernel_types.specs.Facts.{facts_of};
 ghost use Rattle.std.specs.List.{list_any, list_all};
 
@@ -50,12 +51,20 @@ pub fn statuses_of(core: &CoreState, world: &World) -> Result<Items<ActorStatus>
     Ok(statuses)
 }
 
+/// How many entries name this object.
+#[tactic(auto, unfolding(crate::specs::Tests::names_on))]
+fn names_on(names: &[Naming], object: &Object) -> u64
+    ensures { result ≡ names_on names.now object.now }
+{
+    count_names(names, object.id) as u64
+}
+
 fn sum_names(names: &[Naming], objects: &[Object]) -> Result<u64, NoMemory>
-    ensures { IfOk result (λ sum. sum ≡ sum_by (λ object. names_of names.now object.id) objects.now) }
+    ensures { IfOk result (λ sum. sum ≡ sum_by (names_on names.now) objects.now) }
 {
     let mut sum: u64 = 0;
     for object in objects {
-        let Some(more) = sum.checked_add(count_names(names, object.id) as u64) else {
+        let Some(more) = sum.checked_add(names_on(names, object)) else {
             return Err(NoMemory);
         };
         sum = more;
@@ -64,6 +73,7 @@ fn sum_names(names: &[Naming], objects: &[Object]) -> Result<u64, NoMemory>
 }
 
 /// The clock, the number of objects, and the sum of their names.
+#[tactic(auto, unfolding(crate::specs::Tests::names_on))]
 pub fn facts_of(core: &CoreState, names: &[Naming]) -> Result<EndFacts, NoMemory>
     requires { names.now ≡ naming core.now }
     ensures { IfOk result (λ facts. facts ≡ facts_of core.now) }

@@ -29,7 +29,7 @@ pub struct PlainKernel {
     world: World,
     names: Items<Naming>,
     facts: EndFacts,
-    statuses: Items<ActorStatus>,
+    actors: Items<ActorStatus>,
     made: u32,
 }
 
@@ -45,7 +45,7 @@ impl Model for PlainKernel {
 
     ghost view = { λ k. record { state = whole k.core k.world; made = k.made } };
 
-    ghost invariant = { λ k. (k.names ≡ naming k.core) × (k.facts ≡ facts_of k.core) × (k.statuses ≡ statuses (whole k.core k.world)) };
+    ghost invariant = { λ k. (k.names ≡ naming k.core) × (k.facts ≡ facts_of k.core) × (k.actors ≡ statuses (whole k.core k.world)) };
 }
 
 /// A state after a step, with what is told of it and of the step.
@@ -78,8 +78,6 @@ fn ready(core: CoreState, world: &World, told: Told) -> Result<Next, NoMemory>
 }
 
 impl PlainKernel {
-    ghost use Rattle.kernel_types.specs.Opening.{opening};
-
     /// A kernel in the state in which the scene begins.
     #[tactic(auto, unfolding(kernel_types::specs::Opening::opening))]
     pub fn new(alloc: Global, scene: &Scene) -> Result<PlainKernel, NoMemory>
@@ -96,7 +94,7 @@ impl PlainKernel {
             world,
             names,
             facts,
-            statuses,
+            actors: statuses,
             made: 0,
         })
     }
@@ -105,15 +103,15 @@ impl PlainKernel {
     fn is_idle(&self) -> bool
         ensures { result ≡ idle_lawful self.now.state }
     {
-        any_goes_on(self.statuses.as_slice()) && !any_runs(self.statuses.as_slice()) && !any_may_move(&self.core)
+        any_goes_on(self.actors.as_slice()) && !any_runs(self.actors.as_slice()) && !any_may_move(&self.core)
     }
 
     fn status_for(&self, event: &Event) -> Option<ActorStatus>
         ensures { result ≡ status_for self.now.state event.now }
     {
         match event {
-            Event::Begin { actor, start: _, call: _ } => self.statuses.get(actor.0 as usize).copied(),
-            Event::Resume { actor, start: _ } => self.statuses.get(actor.0 as usize).copied(),
+            Event::Begin { actor, start: _, call: _ } => self.actors.get(actor.0 as usize).copied(),
+            Event::Resume { actor, start: _ } => self.actors.get(actor.0 as usize).copied(),
             Event::Device | Event::Idle => None,
         }
     }
@@ -150,8 +148,6 @@ impl PlainKernel {
 }
 
 impl IpcKernel for PlainKernel {
-    ghost use Rattle.std.specs.Prelude.{⊥};
-
     ghost state = { λ k. k.state };
 
     ghost made = { λ k. k.made };
@@ -165,7 +161,7 @@ impl IpcKernel for PlainKernel {
                 self.core = next.core;
                 self.names = next.names;
                 self.facts = next.facts;
-                self.statuses = next.statuses;
+                self.actors = next.statuses;
                 self.made += 1;
                 Ok(Entry {
                     event,
@@ -178,19 +174,20 @@ impl IpcKernel for PlainKernel {
     }
 
     fn status(&self, actor: ActorId) -> ActorStatus {
-        match self.statuses.get(actor.0 as usize) {
+        match self.actors.get(actor.0 as usize) {
             Some(status) => *status,
             None => unreachable!(),
         }
     }
 
+    #[tactic(auto, unfolding(kernel_types::specs::Step::movable))]
     fn movable(&self, actor: ActorId) -> bool {
         is_movable(&self.core, actor.0)
     }
 
     fn is_client(&self, actor: ActorId) -> bool {
         let at = actor.0 as usize;
-        self.core.threads.len() <= at && at < self.statuses.len()
+        self.core.threads.len() <= at && at < self.actors.len()
     }
 
     #[tactic(auto, unfolding(kernel_types::specs::Step::device_has_work))]
@@ -204,7 +201,7 @@ impl IpcKernel for PlainKernel {
 
     #[tactic(auto, unfolding(kernel_types::specs::Facts::is_at_end, kernel_types::specs::Step::device_has_work))]
     fn whole(&self) -> bool {
-        none_goes_on(self.statuses.as_slice())
+        none_goes_on(self.actors.as_slice())
     }
 
     fn end_facts(&self) -> EndFacts {

@@ -1,11 +1,12 @@
 //! The state in which a scene begins.
 
 ghost use Rattle.std.specs.Prelude.{IfOk, ◌≡◌, map, OnOk, ◌++◌};
-ghost use Rattle.kernel_types.specs.Opening.{opening_app, opening_activity, opening_threads, opening_core};
+ghost use Rattle.kernel_types.specs.Opening.{opening_app, opening_activity, opening_core};
+ghost use Rattle.plain_kernel.specs.Tests.{place_threads};
 ghost use Rattle.std.specs.List.{flat_map, enumerate_from};
 ghost use Rattle.kernel_values.specs.declared.entry.ActorStatus.TheVariants as status;
 
-use kernel_values::{Activity, ActorStatus, App, Application, Client, ClientState, Copied, CoreState, Items, Manifest, NoMemory, Script, Thread, World};
+use kernel_values::{Activity, ActorStatus, App, Application, Client, ClientState, Copied, CoreState, Items, Manifest, NoMemory, Thread, World};
 use std::alloc::Global;
 
 fn opening_app(alloc: Global, app: &App) -> Result<Application, NoMemory>
@@ -42,11 +43,12 @@ fn opening_activity(manifest: &Manifest) -> Activity
 }
 
 /// A thread for each script of the application at this place.
-fn add_threads(threads: &mut Items<Thread>, place: u32, manifest: &Manifest, scripts: &[Script]) -> Result<(), NoMemory>
-    ensures { OnOk result (threads.new ≡ threads.old ++ map (λ script. record { app = place; activity = opening_activity manifest.now }) scripts.now) }
+#[tactic(auto, unfolding(crate::specs::Tests::place_threads))]
+fn add_threads(threads: &mut Items<Thread>, place: u32, app: &App) -> Result<(), NoMemory>
+    ensures { OnOk result (threads.new ≡ threads.old ++ place_threads (place, app.now)) }
 {
-    for _script in scripts {
-        let activity = opening_activity(manifest);
+    for _script in app.threads.as_slice() {
+        let activity = opening_activity(&app.manifest);
         threads.push(Thread {
             app: place,
             activity,
@@ -56,12 +58,12 @@ fn add_threads(threads: &mut Items<Thread>, place: u32, manifest: &Manifest, scr
 }
 
 fn opening_threads(alloc: Global, apps: &[App]) -> Result<Items<Thread>, NoMemory>
-    ensures { IfOk result (λ threads. threads ≡ flat_map opening_threads (enumerate_from 0 apps.now)) }
+    ensures { IfOk result (λ threads. threads ≡ flat_map place_threads (enumerate_from 0 apps.now)) }
 {
     let mut threads = Items::new(alloc);
     let mut place: u32 = 0;
     for app in apps {
-        add_threads(&mut threads, place, &app.manifest, app.threads.as_slice())?;
+        add_threads(&mut threads, place, app)?;
         let Some(next) = place.checked_add(1) else {
             return Err(NoMemory);
         };
@@ -71,6 +73,7 @@ fn opening_threads(alloc: Global, apps: &[App]) -> Result<Items<Thread>, NoMemor
 }
 
 /// The state of the kernel: the clock is 0, and there are no objects.
+#[tactic(auto, unfolding(crate::specs::Tests::place_threads))]
 pub fn opening_core(alloc: Global, apps: &[App]) -> Result<CoreState, NoMemory>
     ensures { IfOk result (λ core. core ≡ opening_core apps.now) }
 {

@@ -218,6 +218,7 @@ fn find_earlier(objects: &[Object], table: &[TableEntry], last: Option<u32>) -> 
 }
 
 /// The entry that a `waitany` would report.
+#[tactic(auto, using(crate::proofs::Waiting::first_in_turn), unfolding(crate::specs::Tests::entry_in_turn))]
 fn find_entry_in_turn(core: &CoreState, app: u32) -> Option<TableEntry>
     ensures { result ≡ entry_in_turn core.now app }
 {
@@ -255,7 +256,7 @@ fn report_any(core: &mut CoreState, app: u32) -> Option<Report>
 
 /// Reports what a wait of a thread of `app` is for, where it is pending.
 #[tactic(auto, unfolding(kernel_types::specs::Reports::report_of))]
-pub fn report(core: &mut CoreState, app: u32, on: WaitOn) -> Result<Option<Report>, NoMemory>
+pub fn take_report(core: &mut CoreState, app: u32, on: WaitOn) -> Result<Option<Report>, NoMemory>
     ensures told { IfOk result (λ report. reported_if report core.new ≡ report_of core.old app on) }
     ensures kept { IfOk result (λ report. kept_if report core.old core.new) }
 {

@@ -1,15 +1,14 @@
 //! How waits end.
 
 ghost use Rattle.std.specs.Prelude.{◌≡◌, IfOk};
-ghost use Rattle.kernel_types.specs.Waits.{is_due, end_by_report, wait, end_of_wait, thread_may_move};
+ghost use Rattle.kernel_types.specs.Waits.{is_due, end_by_report, end_of_wait, thread_may_move, thread_movable};
 ghost use Rattle.plain_kernel.specs.Shown.{outcome_if};
 ghost use Rattle.kernel_types.specs.Reports.{report_of};
 ghost use Rattle.std.specs.Option.{is_some};
-ghost use Rattle.kernel_types.specs.Step.{movable};
 ghost use Rattle.std.specs.List.{list_any};
 
 use crate::accepts::{decide_connect, is_connect_decided};
-use crate::reports::{event_reply, has_report, report};
+use crate::reports::{event_reply, has_report, take_report};
 use crate::told::{Told, gives, refuses};
 use kernel_values::{Activity, CoreState, Errno, NoMemory, Thread, Wait, WaitOn};
 
@@ -26,7 +25,7 @@ fn is_due(clock: u64, deadline: Option<u64>) -> bool
 fn end_by_report(core: &mut CoreState, app: u32, wait: Wait) -> Result<Option<Told>, NoMemory>
     ensures { IfOk result (λ told. outcome_if told core.new ≡ end_by_report core.old wait (report_of core.old app wait.on)) }
 {
-    if let Some(found) = report(core, app, wait.on)? {
+    if let Some(found) = take_report(core, app, wait.on)? {
         return Ok(Some(gives(event_reply(found))));
     }
     if wait.cancelled {
@@ -50,6 +49,7 @@ pub fn end_wait(core: &mut CoreState, app: u32, wait: Wait) -> Result<Option<Tol
     }
 }
 
+#[tactic(auto, using(crate::proofs::Waiting::may_end_by_report))]
 fn may_end_by_report(core: &CoreState, app: u32, wait: Wait) -> bool
     ensures { result ≡ is_some (end_by_report core.now wait (report_of core.now app wait.on)) }
 {
@@ -79,9 +79,9 @@ fn thread_may_move(core: &CoreState, thread: &Thread) -> bool
 }
 
 /// Whether the thread of this number waits and may move.
-#[tactic(auto, unfolding(kernel_types::specs::Waits::movable))]
+#[tactic(auto, unfolding(kernel_types::specs::Waits::thread_movable))]
 pub fn is_movable(core: &CoreState, thread: u32) -> bool
-    ensures { result ≡ movable core.now thread }
+    ensures { result ≡ thread_movable core.now thread }
 {
     match core.threads.get(thread as usize) {
         Some(thread) => thread_may_move(core, thread),
