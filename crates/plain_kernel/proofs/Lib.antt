@@ -1,3 +1,3 @@
-pub mod Depths
+pub mod Descending
 pub mod Numbers
 pub mod Waiting

@@ -1,5 +1,5 @@
 -- Tests and searches under one name each: a loop that takes the items that pass then goes by the name.
-use Rattle.std.specs.Prelude.{ℕ, Bool, List, Option, slice_get, not}
+use Rattle.std.specs.Prelude.{ℕ, Bool, List, Option, Some, None, length, nat_lt, slice_get, not, if◌then◌else◌}
 use Rattle.std.specs.List.{find}
 use Rattle.kernel_values.specs.declared.state.Object.{Object}
 use Rattle.kernel_values.specs.declared.state.CoreState.{CoreState}
@@ -7,7 +7,14 @@ use Rattle.kernel_values.specs.declared.state.TableEntry.{TableEntry}
 use Rattle.kernel_types.specs.Objects.{end_of}
 use Rattle.kernel_types.specs.Sweep.{has_marked_peer}
 use Rattle.kernel_types.specs.Reports.{is_after, in_turn, last_of, has_events}
-use Rattle.kernel_types.specs.Tables.{table_of}
+use Rattle.kernel_types.specs.Tables.{table_of, entry_at}
+use Rattle.kernel_types.specs.Messages.{is_opened_as, is_unconnected, part_limit, entry_object, send_parts}
+use Rattle.kernel_types.specs.Events.{is_disconnected}
+use Rattle.kernel_values.specs.declared.errno.Errno.TheVariants as errno
+use Rattle.kernel_values.specs.declared.state.ChannelEnd.{ChannelEnd}
+use Rattle.kernel_types.specs.Outcome.{Outcome, refuses}
+use Rattle.kernel_types.specs.Sets.{has_member}
+use Rattle.kernel_values.specs.declared.state.Message.{Message}
 use Rattle.kernel_types.specs.Names.{Name, names_of}
 use Rattle.kernel_types.specs.Opening.{opening_threads}
 use Rattle.kernel_values.specs.declared.scene.App.{App}
@@ -43,3 +50,29 @@ names_on names object = names_of names object.id
 -- the threads of the application at a place of the scene
 unfoldable pub place_threads : ℕ × App → List Thread
 place_threads p = opening_threads p
+
+-- a message that is not the one open under this id
+unfoldable pub is_another : ℕ → Message → Bool
+is_another id message = not (is_opened_as id message)
+
+-- the object that a number of a table names
+unfoldable pub part_object : List TableEntry → ℕ → ℕ
+part_object table handle = entry_object (entry_at table handle)
+
+-- whether the object is a set that has this member
+unfoldable pub holds_member : ℕ → Object → Bool
+holds_member id object = has_member id object
+
+-- a send whose parts are not looked into
+unfoldable pub send_with_parts : CoreState → ℕ → List TableEntry → Option ℕ → List ℕ → List ℕ → Outcome
+send_with_parts c id table peer bytes parts = send_parts c id table peer bytes parts
+
+-- `send` from an end, as far as its parts
+abbrev pub send_by_end : CoreState → ℕ → List TableEntry → List ℕ → List ℕ → Option ChannelEnd → Outcome
+send_by_end c id table bytes parts None = refuses errno.InvalidArgs c
+send_by_end c id table bytes parts (Some end) =
+    (if nat_lt part_limit (length parts) then refuses errno.InvalidArgs c
+    else if is_unconnected end.state then refuses errno.NotReady c
+    else if is_disconnected end.state then refuses errno.ChannelClosed c
+    else if nat_lt end.size (length bytes) then refuses errno.TooBig c
+    else send_with_parts c id table end.peer bytes parts)

@@ -1,7 +1,7 @@
 //! Starts and ends of applications.
 
 ghost use Rattle.std.specs.Prelude.{◌≡◌, IfOk, ◌+◌, map, OnOk, slice_get};
-ghost use Rattle.kernel_types.specs.Applications.{has_start_left, started_thread, started, ended_activity, ended_thread, without_app, is_started_again, application_ended, is_over, is_elsewhere_or_over, thread_ended, after_finish, finish, has_start_port};
+ghost use Rattle.kernel_types.specs.Applications.{has_start_left, started_thread, started, ended_activity, ended_thread, without_app, is_started_again, application_ended, is_over, is_elsewhere_or_over, thread_ended, after_finish, finish, exit, has_start_port};
 ghost use Rattle.std.specs.List.{list_all};
 ghost use Rattle.kernel_types.specs.Objects.{map_at};
 ghost use Rattle.plain_kernel.specs.Shown.{outcome};
@@ -173,6 +173,15 @@ pub fn finish_call(core: &mut CoreState, thread: u32, app: u32) -> Result<Told, 
 {
     end_thread(core, thread);
     end_if_last(core, app)?;
+    Ok(gives(Reply::Done))
+}
+
+/// The application ends.
+#[tactic(auto, unfolding(kernel_types::specs::Applications::exit))]
+pub fn exit_call(core: &mut CoreState, app: u32) -> Result<Told, NoMemory>
+    ensures { IfOk result (λ told. outcome told core.new ≡ exit core.old app) }
+{
+    end_application(core, app)?;
     Ok(gives(Reply::Done))
 }
 

@@ -4,6 +4,7 @@ ghost use Rattle.std.specs.Prelude.{◌≡◌};
 ghost use Rattle.kernel_types.specs.Objects.{new_end};
 ghost use Rattle.kernel_types.specs.Ports.{server_end};
 ghost use Rattle.kernel_types.specs.Events.{is_disconnected};
+ghost use Rattle.kernel_types.specs.Messages.{is_unconnected};
 
 use kernel_values::{Body, Bytes, ChannelEnd, Connector, EndState, Items};
 use std::alloc::Global;
@@ -51,5 +52,15 @@ pub fn is_disconnected(state: EndState) -> bool
     match state {
         EndState::Disconnected => true,
         EndState::Waiting | EndState::Connecting | EndState::Connected => false,
+    }
+}
+
+/// Whether no port was there yet, or nobody accepted.
+pub fn is_unconnected(state: EndState) -> bool
+    ensures { result ≡ is_unconnected state }
+{
+    match state {
+        EndState::Waiting | EndState::Connecting => true,
+        EndState::Connected | EndState::Disconnected => false,
     }
 }

@@ -47,7 +47,7 @@ fn depth_limit() -> u32
 }
 
 #[cycle(ready)]
-#[tactic(auto, using(crate::proofs::Depths::events_above))]
+#[tactic(auto, using(crate::proofs::Descending::events_above))]
 fn events_within(depth: u32, objects: &[Object], id: u64) -> u32
     ensures { result ≡ events_within depth objects.now id }
 {

@@ -5,23 +5,35 @@
 mod accepts;
 mod applications;
 mod connects;
+mod depths;
 mod ends;
 mod events;
 mod facts;
 mod handles;
+mod installs;
 pub mod kernel;
+mod memberships;
+mod memories;
+mod messages;
 mod names;
 mod objects;
 mod opening;
 mod ports;
+mod queues;
 mod reach;
 mod reports;
+mod sends;
+mod sets;
 mod step;
 mod sweep;
 mod tables;
 mod threads;
 mod told;
+mod wait_calls;
 mod waits;
 mod words;
 
 pub use kernel::PlainKernel;
+
+#[cfg(test)]
+mod tests;

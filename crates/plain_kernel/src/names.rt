@@ -26,7 +26,7 @@ impl Model for Naming {
 impl Naming {
     ghost use Rattle.kernel_types.specs.Names.{root, held_by};
 
-    fn root(object: u64) -> Naming
+    pub fn root(object: u64) -> Naming
         ensures { result ≡ root object }
     {
         Naming {
@@ -76,7 +76,8 @@ fn add_wait_names(names: &mut Items<Naming>, thread: &Thread) -> Result<(), NoMe
     }
 }
 
-fn add_all_held(names: &mut Items<Naming>, holder: u64, objects: &[u64]) -> Result<(), NoMemory>
+/// Adds that the holder names these objects, in order.
+pub fn add_all_held(names: &mut Items<Naming>, holder: u64, objects: &[u64]) -> Result<(), NoMemory>
     ensures { OnOk result (names.new ≡ names.old ++ map (held_by holder) objects.now) }
 {
     for object in objects {

@@ -2,50 +2,72 @@
 
 ghost use Rattle.std.specs.Prelude.{◌≡◌, IfOk, map, OnOk};
 ghost use Rattle.kernel_types.specs.Built.{is_built};
-ghost use Rattle.plain_kernel.specs.Shown.{outcome, outcome_if};
+ghost use Rattle.plain_kernel.specs.Shown.{outcome_if, outcome};
 ghost use Rattle.kernel_types.specs.Step.{act, core_begin, core_resume, deadline_in, sooner, least_deadline_of, least_deadline, cancelled_activity, core_idle, idle_answer, idle_lawful, step};
 ghost use Rattle.kernel_types.specs.Threads.{activity_changed};
 ghost use Rattle.plain_kernel.specs.Steps.{idle_outcome, whole, stepped_if};
 
 use crate::accepts::accept_call;
-use crate::applications::finish_call;
+use crate::applications::{exit_call, finish_call};
 use crate::connects::connect_call;
-use crate::handles::close_call;
+use crate::handles::{close_call, dup_call, set_cookie_call};
+use crate::memories::{mem_create_call, mem_read_call, mem_write_call};
+use crate::messages::{get_call, put_call, read_call};
 use crate::ports::port_create_call;
+use crate::sends::send_call;
+use crate::sets::{set_add_call, set_create_call, set_del_call, set_mod_call};
 use crate::sweep::sweep_state;
 use crate::threads::run_again;
 use crate::told::Told;
+use crate::wait_calls::{wait_any_call, wait_call};
 use crate::waits::end_wait;
 use kernel_values::{Activity, Answer, Call, CoreState, Event, Items, NoMemory, Seqs, Thread, World};
 use std::alloc::Global;
 
-/// Whether the call has a body.
+/// Whether the call has a body: those of the normal world have none yet.
 fn is_built_call(call: &Call) -> bool
     ensures { result ≡ is_built call.now }
 {
     match call {
-        Call::PortCreate { path: _, bufs: _, size: _, flags: _ } => true,
-        Call::Connect { path: _, flags: _ } => true,
-        Call::Accept { port: _ } => true,
-        Call::Close { handle: _ } => true,
-        Call::Finish => true,
-        _ => false,
+        Call::NsConnect { path: _ } => false,
+        Call::NsSend { conn: _, bytes: _ } => false,
+        Call::NsRecv { conn: _, timeout: _ } => false,
+        Call::NsClose { conn: _ } => false,
+        Call::NsPoke { addr: _, bytes: _ } => false,
+        Call::NsKick { queue: _, head: _ } => false,
+        _ => true,
     }
 }
 
-/// The call of a thread of `app`, for the calls that have a body.
+/// The call of a thread of `app`; the calls of the normal world are none.
 #[tactic(auto, unfolding(kernel_types::specs::Step::act))]
-fn act_on(core: &mut CoreState, thread: u32, app: u32, call: &Call) -> Result<Told, NoMemory>
-    ensures { IfOk result (λ told. Some (outcome told core.new) ≡ act core.old thread app call.now) }
+fn act_on(core: &mut CoreState, thread: u32, app: u32, call: &Call) -> Result<Option<Told>, NoMemory>
+    ensures { IfOk result (λ told. outcome_if told core.new ≡ act core.old thread app call.now) }
 {
-    match call {
-        Call::PortCreate { path, bufs, size, flags } => port_create_call(core, app, path, *bufs, *size, *flags),
-        Call::Connect { path, flags } => connect_call(core, thread, app, path, *flags),
-        Call::Accept { port } => accept_call(core, app, *port),
-        Call::Close { handle } => close_call(core, app, *handle),
-        Call::Finish => finish_call(core, thread, app),
-        _ => Err(NoMemory),
-    }
+    Ok(Some(match call {
+        Call::PortCreate { path, bufs, size, flags } => port_create_call(core, app, path, *bufs, *size, *flags)?,
+        Call::Connect { path, flags } => connect_call(core, thread, app, path, *flags)?,
+        Call::Accept { port } => accept_call(core, app, *port)?,
+        Call::Send { chan, bytes, parts } => send_call(core, app, *chan, bytes, parts)?,
+        Call::Get { chan } => get_call(core, app, *chan)?,
+        Call::Read { chan, id, offset, room, parts } => read_call(core, app, *chan, *id, *offset, *room, *parts)?,
+        Call::Put { chan, id } => put_call(core, app, *chan, *id)?,
+        Call::SetCookie { handle, cookie } => set_cookie_call(core, app, *handle, *cookie)?,
+        Call::Close { handle } => close_call(core, app, *handle)?,
+        Call::Dup { handle } => dup_call(core, app, *handle)?,
+        Call::SetCreate => set_create_call(core, app)?,
+        Call::SetAdd { set, handle, mask, cookie } => set_add_call(core, app, *set, *handle, *mask, *cookie)?,
+        Call::SetDel { set, label } => set_del_call(core, app, *set, *label)?,
+        Call::SetMod { set, label, mask, cookie } => set_mod_call(core, app, *set, *label, *mask, *cookie)?,
+        Call::MemCreate { size, flags } => mem_create_call(core, app, *size, *flags)?,
+        Call::MemRead { handle, offset, len } => mem_read_call(core, app, *handle, *offset, *len)?,
+        Call::MemWrite { handle, offset, bytes } => mem_write_call(core, app, *handle, *offset, bytes)?,
+        Call::Wait { handle, timeout } => wait_call(core, thread, app, *handle, *timeout)?,
+        Call::WaitAny { timeout } => wait_any_call(core, thread, app, *timeout)?,
+        Call::Exit { code: _ } => exit_call(core, app)?,
+        Call::Finish => finish_call(core, thread, app)?,
+        _ => return Ok(None),
+    }))
 }
 
 /// A call of a thread that runs, by its present start.
@@ -63,7 +85,9 @@ fn begin(core: &mut CoreState, thread: u32, start: u32, call: &Call) -> Result<O
         return Ok(None);
     }
     let app = caller.app;
-    let told = act_on(core, thread, app, call)?;
+    let Some(told) = act_on(core, thread, app, call)? else {
+        return Ok(None);
+    };
     sweep_state(core)?;
     Ok(Some(told))
 }

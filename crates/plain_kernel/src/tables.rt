@@ -1,7 +1,7 @@
 //! Handle tables: looking numbers up, giving them and taking them away.
 
 ghost use Rattle.std.specs.Prelude.{◌≡◌, nat_lt, ◌≤◌, length, OnOk, IfOk};
-ghost use Rattle.kernel_types.specs.Tables.{table_of, entry_at, is_free, free_handle, is_full, installed, install, without, remove_entry};
+ghost use Rattle.kernel_types.specs.Tables.{table_of, entry_at, is_free, free_handle, is_full, installed, install, without, remove_entry, has_room};
 ghost use Rattle.plain_kernel.specs.Counting.{free_below};
 ghost use Rattle.std.specs.List.{position_or_len};
 
@@ -129,4 +129,12 @@ pub fn remove_entry(core: &mut CoreState, app: u32, handle: u32) -> Result<(), N
         application.table = others;
     }
     Ok(())
+}
+
+/// Whether so many more numbers fit the table.
+#[tactic(auto, unfolding(kernel_types::specs::Tables::has_room))]
+pub fn has_room(count: usize, table: &[TableEntry]) -> bool
+    ensures { result ≡ has_room count table.now }
+{
+    table.len() <= 64 && count <= 64 - table.len()
 }
