@@ -9,9 +9,13 @@ ghost use Rattle.std.specs.Option.{is_some};
 
 use crate::ends::is_disconnected;
 use crate::objects::{find_end, find_port, place_of_object};
-use crate::tables::{find_entry, install, is_full_table, least_free_handle, remove_entry, table_of};
+use crate::tables::{
+    find_entry, install, is_full_table, least_free_handle, remove_entry, table_of,
+};
 use crate::told::{Told, gives, refuses};
-use kernel_values::{Body, ChannelEnd, Connector, Copied, CoreState, EndState, Errno, Items, NoMemory, Object, Reply};
+use kernel_values::{
+    Body, ChannelEnd, Connector, Copied, CoreState, EndState, Errno, Items, NoMemory, Object, Reply,
+};
 
 fn accepted_end(end: &mut ChannelEnd, ready: bool)
     ensures { end.new ≡ accepted_end ready end.old }
@@ -89,7 +93,13 @@ fn peer_of(objects: &[Object], id: u64) -> Option<u64>
     }
 }
 
-fn accept_server(core: &mut CoreState, app: u32, port: u64, server: u64, rest: &[u64]) -> Result<Told, NoMemory>
+fn accept_server(
+    core: &mut CoreState,
+    app: u32,
+    port: u64,
+    server: u64,
+    rest: &[u64],
+) -> Result<Told, NoMemory>
     ensures { IfOk result (λ told. outcome told core.new ≡ accept_server core.old app port server rest.now (peer_of (end_of core.old.objects server))) }
 {
     let handle = least_free_handle(table_of(core, app));
@@ -156,13 +166,25 @@ fn is_decided_on(core: &CoreState, app: u32, id: u64, handle: u32, cancelled: bo
 
 /// Whether a connect that waits is decided.
 #[tactic(auto, unfolding(kernel_types::specs::Connects::connect_decision))]
-pub fn is_connect_decided(core: &CoreState, app: u32, end: u64, handle: u32, cancelled: bool) -> bool
+pub fn is_connect_decided(
+    core: &CoreState,
+    app: u32,
+    end: u64,
+    handle: u32,
+    cancelled: bool,
+) -> bool
     ensures { result ≡ is_some (connect_decision core.now app end handle cancelled) }
 {
     !holds_end(core, app, handle, end) || is_decided_on(core, app, end, handle, cancelled)
 }
 
-fn decide_on(core: &mut CoreState, app: u32, id: u64, handle: u32, cancelled: bool) -> Result<Option<Told>, NoMemory>
+fn decide_on(
+    core: &mut CoreState,
+    app: u32,
+    id: u64,
+    handle: u32,
+    cancelled: bool,
+) -> Result<Option<Told>, NoMemory>
     ensures { IfOk result (λ told. outcome_if told core.new ≡ decided_on core.old app id handle cancelled (end_of core.old.objects id)) }
 {
     let Some(end) = find_end(core.objects.as_slice(), id) else {
@@ -185,7 +207,13 @@ fn decide_on(core: &mut CoreState, app: u32, id: u64, handle: u32, cancelled: bo
 
 /// The decision on a connect that waits, where there is one.
 #[tactic(auto, unfolding(kernel_types::specs::Connects::connect_decision))]
-pub fn decide_connect(core: &mut CoreState, app: u32, end: u64, handle: u32, cancelled: bool) -> Result<Option<Told>, NoMemory>
+pub fn decide_connect(
+    core: &mut CoreState,
+    app: u32,
+    end: u64,
+    handle: u32,
+    cancelled: bool,
+) -> Result<Option<Told>, NoMemory>
     ensures { IfOk result (λ told. outcome_if told core.new ≡ connect_decision core.old app end handle cancelled) }
 {
     if !holds_end(core, app, handle, end) {

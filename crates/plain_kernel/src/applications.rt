@@ -28,7 +28,12 @@ fn next_start(starts: u32) -> Result<u32, NoMemory>
     }
 }
 
-fn started_threads(alloc: Global, threads: &[Thread], app: u32, start: u32) -> Result<Items<Thread>, NoMemory>
+fn started_threads(
+    alloc: Global,
+    threads: &[Thread],
+    app: u32,
+    start: u32,
+) -> Result<Items<Thread>, NoMemory>
     ensures { IfOk result (λ others. others ≡ map (started_thread app start) threads.now) }
 {
     let mut others = Items::new(alloc);

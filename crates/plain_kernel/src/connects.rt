@@ -15,7 +15,10 @@ use crate::tables::{install, is_full_table, least_free_handle, table_of};
 use crate::threads::begin_to_wait;
 use crate::told::{Told, gives, refuses};
 use crate::words::is_lawful_path;
-use kernel_values::{Application, Body, Bytes, ConnectFlags, Connector, Copied, CoreState, EndState, Errno, NoMemory, Port, PortFlags, Reply, WaitOn};
+use kernel_values::{
+    Application, Body, Bytes, ConnectFlags, Connector, Copied, CoreState, EndState, Errno,
+    NoMemory, Port, PortFlags, Reply, WaitOn,
+};
 
 fn waits_for_port(flags: ConnectFlags) -> bool
     ensures { result ≡ waits_for_port flags }
@@ -56,7 +59,15 @@ fn add_pair(core: &mut CoreState, app: u32, id: u64, port: &Port) -> Result<(), 
     let client = core.next;
     let server = later(client, 1)?;
     let maker = Some(Connector::App(app));
-    let end = new_end(alloc, Some(server), EndState::Connecting, None, maker, port.bufs, port.size);
+    let end = new_end(
+        alloc,
+        Some(server),
+        EndState::Connecting,
+        None,
+        maker,
+        port.bufs,
+        port.size,
+    );
     add_object(core, Body::End(end))?;
     add_object(core, server_end(alloc, client, port.bufs, port.size))?;
     add_pending(core, id, server)
@@ -68,13 +79,28 @@ fn add_waiting(core: &mut CoreState, app: u32, path: &Bytes) -> Result<(), NoMem
 {
     let alloc = core.objects.allocator();
     let maker = Some(Connector::App(app));
-    let end = new_end(alloc, None, EndState::Waiting, Some(path.copied()?), maker, 0, 0);
+    let end = new_end(
+        alloc,
+        None,
+        EndState::Waiting,
+        Some(path.copied()?),
+        maker,
+        0,
+        0,
+    );
     add_object(core, Body::End(end))
 }
 
 /// The connect goes through: its end is installed, and the answer is its number at once, or comes
 /// with the decision.
-fn connected(core: &mut CoreState, thread: u32, app: u32, flags: ConnectFlags, end: u64, handle: u32) -> Result<Told, NoMemory>
+fn connected(
+    core: &mut CoreState,
+    thread: u32,
+    app: u32,
+    flags: ConnectFlags,
+    end: u64,
+    handle: u32,
+) -> Result<Told, NoMemory>
     ensures { IfOk result (λ told. outcome told core.new ≡ connected_as end handle thread app flags core.old) }
 {
     install(core, app, end)?;
@@ -85,7 +111,15 @@ fn connected(core: &mut CoreState, thread: u32, app: u32, flags: ConnectFlags, e
 }
 
 #[tactic(auto, unfolding(crate::specs::Shown::connect_way))]
-fn connect_to_port(core: &mut CoreState, thread: u32, app: u32, path: &Bytes, flags: ConnectFlags, id: u64, port: &Port) -> Result<Told, NoMemory>
+fn connect_to_port(
+    core: &mut CoreState,
+    thread: u32,
+    app: u32,
+    path: &Bytes,
+    flags: ConnectFlags,
+    id: u64,
+    port: &Port,
+) -> Result<Told, NoMemory>
     ensures { IfOk result (λ told. outcome told core.new ≡ connect_way (to_port id port.now) core.old thread app path.now flags) }
 {
     if !admits(port.flags, Connector::App(app)) {
@@ -115,7 +149,13 @@ fn start_unless_running(core: &mut CoreState, place: u32) -> Result<(), NoMemory
 }
 
 /// The connect waits for a port, and goes through.
-fn connect_at_start(core: &mut CoreState, thread: u32, app: u32, path: &Bytes, flags: ConnectFlags) -> Result<Told, NoMemory>
+fn connect_at_start(
+    core: &mut CoreState,
+    thread: u32,
+    app: u32,
+    path: &Bytes,
+    flags: ConnectFlags,
+) -> Result<Told, NoMemory>
     ensures { IfOk result (λ told. outcome told core.new ≡ connected core.old thread app flags (waiting_client (connector.App app) path.now core.old)) }
 {
     let end = core.next;
@@ -125,7 +165,15 @@ fn connect_at_start(core: &mut CoreState, thread: u32, app: u32, path: &Bytes, f
 }
 
 #[tactic(auto, unfolding(crate::specs::Shown::connect_way))]
-fn connect_to_start(core: &mut CoreState, thread: u32, app: u32, path: &Bytes, flags: ConnectFlags, place: u32, start: PortFlags) -> Result<Told, NoMemory>
+fn connect_to_start(
+    core: &mut CoreState,
+    thread: u32,
+    app: u32,
+    path: &Bytes,
+    flags: ConnectFlags,
+    place: u32,
+    start: PortFlags,
+) -> Result<Told, NoMemory>
     ensures { IfOk result (λ told. outcome told core.new ≡ connect_way (to_start place start) core.old thread app path.now flags) }
 {
     if !admits(start, Connector::App(app)) {
@@ -140,7 +188,13 @@ fn connect_to_start(core: &mut CoreState, thread: u32, app: u32, path: &Bytes, f
 }
 
 #[tactic(auto, unfolding(crate::specs::Shown::connect_way))]
-fn connect_to_nothing(core: &mut CoreState, thread: u32, app: u32, path: &Bytes, flags: ConnectFlags) -> Result<Told, NoMemory>
+fn connect_to_nothing(
+    core: &mut CoreState,
+    thread: u32,
+    app: u32,
+    path: &Bytes,
+    flags: ConnectFlags,
+) -> Result<Told, NoMemory>
     ensures { IfOk result (λ told. outcome told core.new ≡ connect_way to_nothing core.old thread app path.now flags) }
 {
     if !waits_for_port(flags) {
@@ -163,7 +217,13 @@ pub fn number_of_place(place: usize) -> Result<u32, NoMemory>
 }
 
 /// No port has the path.
-fn connect_to_app(core: &mut CoreState, thread: u32, app: u32, path: &Bytes, flags: ConnectFlags) -> Result<Told, NoMemory>
+fn connect_to_app(
+    core: &mut CoreState,
+    thread: u32,
+    app: u32,
+    path: &Bytes,
+    flags: ConnectFlags,
+) -> Result<Told, NoMemory>
     ensures { IfOk result (λ told. outcome told core.new ≡ connect_way (way_by_port path.now core.old None) core.old thread app path.now flags) }
 {
     let place = place_of_server(core, path.as_slice());
@@ -181,7 +241,13 @@ fn connect_to_app(core: &mut CoreState, thread: u32, app: u32, path: &Bytes, fla
     Ok(connect_to_start(core, thread, app, path, flags, number, start_flags)?)
 }
 
-fn connect_on(core: &mut CoreState, thread: u32, app: u32, path: &Bytes, flags: ConnectFlags) -> Result<Told, NoMemory>
+fn connect_on(
+    core: &mut CoreState,
+    thread: u32,
+    app: u32,
+    path: &Bytes,
+    flags: ConnectFlags,
+) -> Result<Told, NoMemory>
     ensures { IfOk result (λ told. outcome told core.new ≡ connect_way (way_of core.old path.now) core.old thread app path.now flags) }
 {
     let Some(object) = find_published(core.objects.as_slice(), path.as_slice()) else {
@@ -197,7 +263,13 @@ fn connect_on(core: &mut CoreState, thread: u32, app: u32, path: &Bytes, flags: 
 
 /// Connects to the port of a path.
 #[tactic(auto, unfolding(kernel_types::specs::Connects::connect, crate::specs::Shown::connect_way))]
-pub fn connect_call(core: &mut CoreState, thread: u32, app: u32, path: &Bytes, flags: ConnectFlags) -> Result<Told, NoMemory>
+pub fn connect_call(
+    core: &mut CoreState,
+    thread: u32,
+    app: u32,
+    path: &Bytes,
+    flags: ConnectFlags,
+) -> Result<Told, NoMemory>
     ensures { IfOk result (λ told. outcome told core.new ≡ connect core.old thread app path.now flags) }
 {
     if !is_lawful_path(path.as_slice()) {

@@ -42,7 +42,15 @@ pub fn new_end(
 pub fn server_end(alloc: Global, client: u64, slots: u32, size: u32) -> Body
     ensures { result ≡ server_end client slots size }
 {
-    Body::End(new_end(alloc, Some(client), EndState::Connecting, None, None, slots, size))
+    Body::End(new_end(
+        alloc,
+        Some(client),
+        EndState::Connecting,
+        None,
+        None,
+        slots,
+        size,
+    ))
 }
 
 /// Whether the other side is gone.

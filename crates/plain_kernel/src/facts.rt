@@ -9,7 +9,9 @@ ghost use Rattle.kernel_types.specs.Facts.{facts_of};
 ghost use Rattle.std.specs.List.{list_any, list_all};
 
 use crate::names::{Naming, count_names};
-use kernel_values::{Activity, ActorStatus, ClientState, CoreState, EndFacts, Items, NoMemory, Object, Thread, World};
+use kernel_values::{
+    Activity, ActorStatus, ClientState, CoreState, EndFacts, Items, NoMemory, Object, Thread, World,
+};
 
 fn status_of(activity: Activity) -> ActorStatus
     ensures { result ≡ status_of activity }

@@ -6,7 +6,9 @@ ghost use Rattle.kernel_types.specs.Handles.{close, set_cookie, dup};
 ghost use Rattle.std.specs.List.{position_or_len};
 ghost use Rattle.kernel_types.specs.Tables.{with_cookie, with_table};
 
-use crate::tables::{find_entry, install, is_full_table, least_free_handle, remove_entry, table_of};
+use crate::tables::{
+    find_entry, install, is_full_table, least_free_handle, remove_entry, table_of,
+};
 use crate::told::{Told, gives, refuses};
 use kernel_values::{CoreState, Errno, Items, NoMemory, Reply, TableEntry};
 
@@ -52,7 +54,12 @@ fn set_cookie(core: &mut CoreState, app: u32, handle: u32, cookie: u64)
 
 /// Gives the number a cookie.
 #[tactic(auto, unfolding(kernel_types::specs::Handles::set_cookie))]
-pub fn set_cookie_call(core: &mut CoreState, app: u32, handle: u32, cookie: u64) -> Result<Told, NoMemory>
+pub fn set_cookie_call(
+    core: &mut CoreState,
+    app: u32,
+    handle: u32,
+    cookie: u64,
+) -> Result<Told, NoMemory>
     ensures { IfOk result (λ told. outcome told core.new ≡ set_cookie core.old app handle cookie) }
 {
     let Some(_entry) = find_entry(table_of(core, app), handle) else {

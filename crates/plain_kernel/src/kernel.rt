@@ -18,7 +18,10 @@ use crate::step::run_event;
 use crate::told::Told;
 use crate::waits::{any_may_move, is_movable};
 use kernel_types::{IpcKernel, StepCause, StepRefused};
-use kernel_values::{ActorId, ActorStatus, Copied, CoreState, EndFacts, Entry, Event, Events, Items, NoMemory, ObjId, Scene, World};
+use kernel_values::{
+    ActorId, ActorStatus, Copied, CoreState, EndFacts, Entry, Event, Events, Items, NoMemory,
+    ObjId, Scene, World,
+};
 use std::alloc::Global;
 use std::marker::Model;
 
@@ -103,14 +106,20 @@ impl PlainKernel {
     fn is_idle(&self) -> bool
         ensures { result ≡ idle_lawful self.now.state }
     {
-        any_goes_on(self.actors.as_slice()) && !any_runs(self.actors.as_slice()) && !any_may_move(&self.core)
+        any_goes_on(self.actors.as_slice())
+            && !any_runs(self.actors.as_slice())
+            && !any_may_move(&self.core)
     }
 
     fn status_for(&self, event: &Event) -> Option<ActorStatus>
         ensures { result ≡ status_for self.now.state event.now }
     {
         match event {
-            Event::Begin { actor, start: _, call: _ } => self.actors.get(actor.0 as usize).copied(),
+            Event::Begin {
+                actor,
+                start: _,
+                call: _,
+            } => self.actors.get(actor.0 as usize).copied(),
             Event::Resume { actor, start: _ } => self.actors.get(actor.0 as usize).copied(),
             Event::Device | Event::Idle => None,
         }

@@ -35,7 +35,12 @@ fn add_memberships(names: &mut Items<Naming>, objects: &[Object]) -> Result<(), 
 
 /// Whether `inner` is `outer` itself, or is in it at any depth.
 #[tactic(auto, unfolding(kernel_types::specs::Sets::is_or_contains))]
-pub fn is_or_contains(alloc: Global, objects: &[Object], outer: u64, inner: u64) -> Result<bool, NoMemory>
+pub fn is_or_contains(
+    alloc: Global,
+    objects: &[Object],
+    outer: u64,
+    inner: u64,
+) -> Result<bool, NoMemory>
     ensures { IfOk result (λ found. found ≡ is_or_contains objects.now outer inner) }
 {
     let mut names = Items::new(alloc);

@@ -8,7 +8,9 @@ ghost use Rattle.kernel_types.specs.Objects.{memory_of, memory_changed};
 use crate::objects::{add_object, find_memory, place_of_object};
 use crate::tables::{find_entry, install, is_full_table, least_free_handle, table_of};
 use crate::told::{Told, gives, refuses};
-use kernel_values::{Body, Bytes, CoreState, Errno, Handles, Items, MemFlags, MemoryRef, NoMemory, Reply};
+use kernel_values::{
+    Body, Bytes, CoreState, Errno, Handles, Items, MemFlags, MemoryRef, NoMemory, Reply,
+};
 use std::alloc::Global;
 
 /// A memory reference has 1 to 65,536 bytes.
@@ -41,7 +43,12 @@ fn new_memory(alloc: Global, size: u32, flags: MemFlags) -> Result<MemoryRef, No
 
 /// Makes a memory reference of so many bytes.
 #[tactic(auto, unfolding(kernel_types::specs::Memories::mem_create))]
-pub fn mem_create_call(core: &mut CoreState, app: u32, size: u32, flags: MemFlags) -> Result<Told, NoMemory>
+pub fn mem_create_call(
+    core: &mut CoreState,
+    app: u32,
+    size: u32,
+    flags: MemFlags,
+) -> Result<Told, NoMemory>
     ensures { IfOk result (λ told. outcome told core.new ≡ mem_create core.old app size flags) }
 {
     if !is_lawful_size(size) {
@@ -85,14 +92,25 @@ fn mem_read_from(core: &CoreState, object: u64, offset: u32, len: u32) -> Result
         return Ok(refuses(Errno::InvalidArgs));
     }
     let alloc = core.objects.allocator();
-    let bytes = copied_range(alloc, memory.bytes.as_slice(), offset as usize, len as usize)?;
+    let bytes = copied_range(
+        alloc,
+        memory.bytes.as_slice(),
+        offset as usize,
+        len as usize,
+    )?;
     let parts: Handles = Items::new(alloc);
     Ok(gives(Reply::Bytes { bytes, parts }))
 }
 
 /// Reads `len` bytes from `offset` on.
 #[tactic(auto, unfolding(kernel_types::specs::Memories::mem_read))]
-pub fn mem_read_call(core: &CoreState, app: u32, handle: u32, offset: u32, len: u32) -> Result<Told, NoMemory>
+pub fn mem_read_call(
+    core: &CoreState,
+    app: u32,
+    handle: u32,
+    offset: u32,
+    len: u32,
+) -> Result<Told, NoMemory>
     ensures { IfOk result (λ told. outcome told core.now ≡ mem_read core.now app handle offset len) }
 {
     let Some(entry) = find_entry(table_of(core, app), handle) else {
@@ -145,7 +163,12 @@ fn write_in(core: &mut CoreState, object: u64, offset: usize, bytes: &[u8]) -> R
     Ok(())
 }
 
-fn mem_write_to(core: &mut CoreState, object: u64, offset: u32, bytes: &[u8]) -> Result<Told, NoMemory>
+fn mem_write_to(
+    core: &mut CoreState,
+    object: u64,
+    offset: u32,
+    bytes: &[u8],
+) -> Result<Told, NoMemory>
     ensures { IfOk result (λ told. outcome told core.new ≡ mem_write_of core.old object (memory_of core.old.objects object) offset bytes.now) }
 {
     let Some(memory) = find_memory(core.objects.as_slice(), object) else {
@@ -163,7 +186,13 @@ fn mem_write_to(core: &mut CoreState, object: u64, offset: u32, bytes: &[u8]) ->
 
 /// Overwrites bytes from `offset` on.
 #[tactic(auto, unfolding(kernel_types::specs::Memories::mem_write))]
-pub fn mem_write_call(core: &mut CoreState, app: u32, handle: u32, offset: u32, bytes: &Bytes) -> Result<Told, NoMemory>
+pub fn mem_write_call(
+    core: &mut CoreState,
+    app: u32,
+    handle: u32,
+    offset: u32,
+    bytes: &Bytes,
+) -> Result<Told, NoMemory>
     ensures { IfOk result (λ told. outcome told core.new ≡ mem_write core.old app handle offset bytes.now) }
 {
     let Some(entry) = find_entry(table_of(core, app), handle) else {

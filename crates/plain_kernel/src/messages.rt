@@ -12,7 +12,10 @@ use crate::objects::{find_end, place_of_object};
 use crate::queues::{find_filled, find_opened, least_free_id, messages_without, place_of_filled};
 use crate::tables::{find_entry, has_room, table_of};
 use crate::told::{Told, gives, gives_with, refuses};
-use kernel_values::{Body, ChannelEnd, Copied, CoreState, EndSeq, Errno, Items, Message, NoMemory, ObjId, Reply, Seqs};
+use kernel_values::{
+    Body, ChannelEnd, Copied, CoreState, EndSeq, Errno, Items, Message, NoMemory, ObjId, Reply,
+    Seqs,
+};
 use std::alloc::Global;
 
 fn open_first(end: &mut ChannelEnd, id: u32)
@@ -96,7 +99,14 @@ fn first_parts(alloc: Global, parts: &[u64], count: usize) -> Result<Items<u64>,
     Items::from_slice(alloc, &parts[..some])
 }
 
-fn read_message(core: &mut CoreState, app: u32, message: &Message, offset: u32, room: u32, parts: u32) -> Result<Told, NoMemory>
+fn read_message(
+    core: &mut CoreState,
+    app: u32,
+    message: &Message,
+    offset: u32,
+    room: u32,
+    parts: u32,
+) -> Result<Told, NoMemory>
     ensures { IfOk result (λ told. outcome told core.new ≡ read_message core.old app message.now offset room parts) }
 {
     if message.bytes.len() < offset as usize {
@@ -107,7 +117,12 @@ fn read_message(core: &mut CoreState, app: u32, message: &Message, offset: u32, 
         return Ok(refuses(Errno::NoResources));
     }
     let alloc = core.objects.allocator();
-    let bytes = part_of(alloc, message.bytes.as_slice(), offset as usize, room as usize)?;
+    let bytes = part_of(
+        alloc,
+        message.bytes.as_slice(),
+        offset as usize,
+        room as usize,
+    )?;
     let objects = first_parts(alloc, message.parts.as_slice(), parts as usize)?;
     let handles = install_all(core, app, objects.as_slice())?;
     Ok(gives(Reply::Bytes {
@@ -116,7 +131,15 @@ fn read_message(core: &mut CoreState, app: u32, message: &Message, offset: u32, 
     }))
 }
 
-fn read_from(core: &mut CoreState, app: u32, object: u64, id: u32, offset: u32, room: u32, parts: u32) -> Result<Told, NoMemory>
+fn read_from(
+    core: &mut CoreState,
+    app: u32,
+    object: u64,
+    id: u32,
+    offset: u32,
+    room: u32,
+    parts: u32,
+) -> Result<Told, NoMemory>
     ensures { IfOk result (λ told. outcome told core.new ≡ read_from core.old app (end_of core.old.objects object) id offset room parts) }
 {
     let Some(end) = find_end(core.objects.as_slice(), object) else {
@@ -131,7 +154,15 @@ fn read_from(core: &mut CoreState, app: u32, object: u64, id: u32, offset: u32, 
 
 /// A part of an open message's bytes, and new numbers for the first of its handles.
 #[tactic(auto, unfolding(kernel_types::specs::Messages::read))]
-pub fn read_call(core: &mut CoreState, app: u32, chan: u32, id: u32, offset: u32, room: u32, parts: u32) -> Result<Told, NoMemory>
+pub fn read_call(
+    core: &mut CoreState,
+    app: u32,
+    chan: u32,
+    id: u32,
+    offset: u32,
+    room: u32,
+    parts: u32,
+) -> Result<Told, NoMemory>
     ensures { IfOk result (λ told. outcome told core.new ≡ read core.old app chan id offset room parts) }
 {
     let Some(entry) = find_entry(table_of(core, app), chan) else {

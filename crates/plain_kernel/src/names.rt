@@ -4,7 +4,10 @@ ghost use Rattle.std.specs.Prelude.{◌≡◌, OnOk, ◌++◌, map, IfOk, ◌≤
 ghost use Rattle.kernel_types.specs.Names.{root, held_by, table_names, wait_names, message_objects, named_in, object_names, naming, names_of};
 ghost use Rattle.std.specs.List.{flat_map};
 
-use kernel_values::{Activity, Application, Body, Copied, CoreState, Items, Member, Message, NoMemory, Object, Thread, WaitOn};
+use kernel_values::{
+    Activity, Application, Body, Copied, CoreState, Items, Member, Message, NoMemory, Object,
+    Thread, WaitOn,
+};
 use std::alloc::Global;
 use std::marker::Model;
 
@@ -68,7 +71,11 @@ fn add_wait_names(names: &mut Items<Naming>, thread: &Thread) -> Result<(), NoMe
 {
     match thread.activity {
         Activity::Waiting { start: _, wait } => match wait.on {
-            WaitOn::Object { object, handle: _, cookie: _ } => names.push(Naming::root(object)),
+            WaitOn::Object {
+                object,
+                handle: _,
+                cookie: _,
+            } => names.push(Naming::root(object)),
             WaitOn::Connect { end, handle: _ } => names.push(Naming::root(end)),
             WaitOn::Any => Ok(()),
         },

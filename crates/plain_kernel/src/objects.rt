@@ -4,7 +4,9 @@ ghost use Rattle.std.specs.Prelude.{◌≡◌, IfOk, ◌+◌, OnOk};
 ghost use Rattle.kernel_types.specs.Objects.{place_of, is_there, object_of, port_of, end_of, set_of, memory_of, has_path, published, added};
 ghost use Rattle.std.specs.Option.{option_copied};
 
-use kernel_values::{Body, ChannelEnd, CoreState, HandleSet, Items, MemoryRef, NoMemory, Object, Port};
+use kernel_values::{
+    Body, ChannelEnd, CoreState, HandleSet, Items, MemoryRef, NoMemory, Object, Port,
+};
 
 /// The place of the object with this number; past the end where there is none.
 pub fn place_of_object(objects: &[Object], id: u64) -> usize

@@ -6,7 +6,10 @@ ghost use Rattle.plain_kernel.specs.Tests.{place_threads};
 ghost use Rattle.std.specs.List.{flat_map, enumerate_from};
 ghost use Rattle.kernel_values.specs.declared.entry.ActorStatus.TheVariants as status;
 
-use kernel_values::{Activity, ActorStatus, App, Application, Client, ClientState, Copied, CoreState, Items, Manifest, NoMemory, Thread, World};
+use kernel_values::{
+    Activity, ActorStatus, App, Application, Client, ClientState, Copied, CoreState, Items,
+    Manifest, NoMemory, Thread, World,
+};
 use std::alloc::Global;
 
 fn opening_app(alloc: Global, app: &App) -> Result<Application, NoMemory>

@@ -11,7 +11,10 @@ use crate::objects::{find_published, later};
 use crate::tables::{install, is_full_table, least_free_handle, table_of};
 use crate::told::{Told, gives, refuses};
 use crate::words::is_lawful_path;
-use kernel_values::{Body, Bytes, ChannelEnd, Connector, Copied, CoreState, EndState, Errno, Items, NoMemory, Object, Port, PortFlags, Reply};
+use kernel_values::{
+    Body, Bytes, ChannelEnd, Connector, Copied, CoreState, EndState, Errno, Items, NoMemory,
+    Object, Port, PortFlags, Reply,
+};
 use std::alloc::Global;
 
 fn is_lawful_port(path: &[u8], bufs: u32, size: u32) -> bool
@@ -53,7 +56,8 @@ fn is_admitted(port: &Port, body: &Body) -> bool
     ensures { result ≡ end_is_admitted port.now body.now }
 {
     match body {
-        Body::End(end) => waits_for(port.path.as_slice(), end) && admits_client(port.flags, end.client),
+        Body::End(end) => waits_for(port.path.as_slice(), end)
+            && admits_client(port.flags, end.client),
         _ => false,
     }
 }
@@ -93,7 +97,13 @@ fn server_of(first: u64, clients: &[u64], client: u64) -> Result<u64, NoMemory>
 
 /// An end that waits for the port is let in or denied; every other end stays.
 #[tactic(auto, unfolding(crate::specs::Tests::server_number))]
-fn decide_end(end: &mut ChannelEnd, port: &Port, first: u64, clients: &[u64], id: u64) -> Result<(), NoMemory>
+fn decide_end(
+    end: &mut ChannelEnd,
+    port: &Port,
+    first: u64,
+    clients: &[u64],
+    id: u64,
+) -> Result<(), NoMemory>
     ensures { OnOk result (end.new ≡ decided_end port.now first clients.now id end.old) }
 {
     if !waits_for(port.path.as_slice(), end) {
@@ -122,7 +132,12 @@ fn decided(object: &Object, port: &Port, first: u64, clients: &[u64]) -> Result<
     Ok(copy)
 }
 
-fn all_decided(objects: &Items<Object>, port: &Port, first: u64, clients: &[u64]) -> Result<Items<Object>, NoMemory>
+fn all_decided(
+    objects: &Items<Object>,
+    port: &Port,
+    first: u64,
+    clients: &[u64],
+) -> Result<Items<Object>, NoMemory>
     ensures { IfOk result (λ others. others ≡ map (decided port.now first clients.now) objects.now) }
 {
     let mut others = Items::new(objects.allocator());
@@ -144,7 +159,13 @@ fn all_servers(alloc: Global, first: u64, clients: &[u64]) -> Result<Items<u64>,
 
 /// A client's server end under its number.
 #[tactic(auto, unfolding(crate::specs::Tests::server_number, crate::specs::Tests::server_object))]
-fn server_object(alloc: Global, port: &Port, first: u64, clients: &[u64], client: u64) -> Result<Object, NoMemory>
+fn server_object(
+    alloc: Global,
+    port: &Port,
+    first: u64,
+    clients: &[u64],
+    client: u64,
+) -> Result<Object, NoMemory>
     ensures { IfOk result (λ server. server ≡ server_object port.now first clients.now client) }
 {
     Ok(Object {
@@ -153,7 +174,12 @@ fn server_object(alloc: Global, port: &Port, first: u64, clients: &[u64], client
     })
 }
 
-fn add_servers(objects: &mut Items<Object>, port: &Port, first: u64, clients: &[u64]) -> Result<(), NoMemory>
+fn add_servers(
+    objects: &mut Items<Object>,
+    port: &Port,
+    first: u64,
+    clients: &[u64],
+) -> Result<(), NoMemory>
     ensures { OnOk result (objects.new ≡ objects.old ++ map (server_object port.now first clients.now) clients.now) }
 {
     for client in clients {
@@ -190,7 +216,14 @@ fn publish(core: &mut CoreState, port: &Port) -> Result<(), NoMemory>
 
 /// Publishes a port of `bufs` buffers of `size` bytes.
 #[tactic(auto, unfolding(kernel_types::specs::Ports::port_create))]
-pub fn port_create_call(core: &mut CoreState, app: u32, path: &Bytes, bufs: u32, size: u32, flags: PortFlags) -> Result<Told, NoMemory>
+pub fn port_create_call(
+    core: &mut CoreState,
+    app: u32,
+    path: &Bytes,
+    bufs: u32,
+    size: u32,
+    flags: PortFlags,
+) -> Result<Told, NoMemory>
     ensures { IfOk result (λ told. outcome told core.new ≡ port_create core.old app path.now bufs size flags) }
 {
     if !is_lawful_port(path.as_slice(), bufs, size) {

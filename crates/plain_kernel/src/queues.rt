@@ -101,7 +101,11 @@ fn is_another(message: &Message, id: u32) -> bool
 }
 
 /// The messages without the one that is open under this id.
-pub fn messages_without(alloc: Global, messages: &[Message], id: u32) -> Result<Items<Message>, NoMemory>
+pub fn messages_without(
+    alloc: Global,
+    messages: &[Message],
+    id: u32,
+) -> Result<Items<Message>, NoMemory>
     ensures { IfOk result (λ others. others ≡ filter (is_another id) messages.now) }
 {
     let mut others = Items::new(alloc);

@@ -12,7 +12,10 @@ ghost use Rattle.std.specs.Option.{is_some};
 use crate::events::events_of;
 use crate::objects::{find_set, place_of_object};
 use crate::tables::table_of;
-use kernel_values::{Body, ChannelEnd, CoreState, Events, HandleSet, Items, Member, NoMemory, Object, Reply, TableEntry, WaitOn};
+use kernel_values::{
+    Body, ChannelEnd, CoreState, Events, HandleSet, Items, Member, NoMemory, Object, Reply,
+    TableEntry, WaitOn,
+};
 use std::alloc::Global;
 
 /// An event with the number and the cookie under which it is reported.
@@ -94,7 +97,11 @@ fn others_than(alloc: Global, members: &[Member], label: u32) -> Result<Items<Me
 fn put_last(set: &mut HandleSet, member: Member) -> Result<(), NoMemory>
     ensures { OnOk result (set.new ≡ with_last member set.old) }
 {
-    let mut others = others_than(set.members.allocator(), set.members.as_slice(), member.label)?;
+    let mut others = others_than(
+        set.members.allocator(),
+        set.members.as_slice(),
+        member.label,
+    )?;
     others.push(member)?;
     set.members = others;
     Ok(())
@@ -113,7 +120,11 @@ fn move_last(core: &mut CoreState, id: u64, member: Member) -> Result<(), NoMemo
     Ok(())
 }
 
-fn report_member(core: &mut CoreState, id: u64, member: Option<Member>) -> Result<Option<Report>, NoMemory>
+fn report_member(
+    core: &mut CoreState,
+    id: u64,
+    member: Option<Member>,
+) -> Result<Option<Report>, NoMemory>
     ensures told { IfOk result (λ report. reported_if report core.new ≡ member_report core.old id member) }
     ensures kept { IfOk result (λ report. kept_if report core.old core.new) }
 {
@@ -130,7 +141,13 @@ fn report_member(core: &mut CoreState, id: u64, member: Option<Member>) -> Resul
     }))
 }
 
-fn report_plain(core: &mut CoreState, id: u64, handle: u32, cookie: u64, events: u32) -> Option<Report>
+fn report_plain(
+    core: &mut CoreState,
+    id: u64,
+    handle: u32,
+    cookie: u64,
+    events: u32,
+) -> Option<Report>
     ensures told { reported_if result core.new ≡ plain_report core.old id handle cookie events }
     ensures kept { kept_if result core.old core.new }
 {
@@ -145,7 +162,12 @@ fn report_plain(core: &mut CoreState, id: u64, handle: u32, cookie: u64, events:
     })
 }
 
-fn report_object(core: &mut CoreState, id: u64, handle: u32, cookie: u64) -> Result<Option<Report>, NoMemory>
+fn report_object(
+    core: &mut CoreState,
+    id: u64,
+    handle: u32,
+    cookie: u64,
+) -> Result<Option<Report>, NoMemory>
     ensures told { IfOk result (λ report. reported_if report core.new ≡ set_or_plain_report core.old id handle cookie (set_of core.old.objects id)) }
     ensures kept { IfOk result (λ report. kept_if report core.old core.new) }
 {
@@ -261,7 +283,11 @@ pub fn take_report(core: &mut CoreState, app: u32, on: WaitOn) -> Result<Option<
     ensures kept { IfOk result (λ report. kept_if report core.old core.new) }
 {
     match on {
-        WaitOn::Object { object, handle, cookie } => report_object(core, object, handle, cookie),
+        WaitOn::Object {
+            object,
+            handle,
+            cookie,
+        } => report_object(core, object, handle, cookie),
         WaitOn::Connect { end: _, handle: _ } => Ok(None),
         WaitOn::Any => Ok(report_any(core, app)),
     }
@@ -301,7 +327,11 @@ pub fn has_report(core: &CoreState, app: u32, on: WaitOn) -> bool
     ensures { result ≡ is_some (report_of core.now app on) }
 {
     match on {
-        WaitOn::Object { object, handle, cookie } => has_object_report(core, object, handle, cookie),
+        WaitOn::Object {
+            object,
+            handle,
+            cookie,
+        } => has_object_report(core, object, handle, cookie),
         WaitOn::Connect { end: _, handle: _ } => false,
         WaitOn::Any => has_any_report(core, app),
     }

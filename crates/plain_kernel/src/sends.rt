@@ -13,7 +13,10 @@ use crate::ends::{is_disconnected, is_unconnected};
 use crate::objects::{find_end, find_memory, place_of_object};
 use crate::tables::{find_entry, table_of};
 use crate::told::{Told, gives_with, refuses};
-use kernel_values::{Body, Bytes, ChannelEnd, Connector, Copied, CoreState, EndSeq, Errno, Handles, Items, Message, NoMemory, ObjId, Object, Reply, Seqs, TableEntry};
+use kernel_values::{
+    Body, Bytes, ChannelEnd, Connector, Copied, CoreState, EndSeq, Errno, Handles, Items, Message,
+    NoMemory, ObjId, Object, Reply, Seqs, TableEntry,
+};
 use std::alloc::Global;
 
 fn are_in_table(table: &[TableEntry], parts: &[u32]) -> bool
@@ -92,7 +95,8 @@ fn has_unsendable_part(core: &CoreState, app: u32, peer: Option<u64>, parts: &[u
         [] => false,
         _ => true,
     };
-    !are_memories(objects, table_of(core, app), parts) || (has_parts && is_bridge_peer(objects, peer))
+    !are_memories(objects, table_of(core, app), parts)
+        || (has_parts && is_bridge_peer(objects, peer))
 }
 
 fn block_end(core: &mut CoreState, id: u64)
@@ -124,7 +128,12 @@ fn add_message_to(end: &mut ChannelEnd, bytes: &Bytes, parts: &Items<u64>) -> Re
     Ok(())
 }
 
-fn add_message(core: &mut CoreState, id: u64, bytes: &Bytes, parts: &Items<u64>) -> Result<(), NoMemory>
+fn add_message(
+    core: &mut CoreState,
+    id: u64,
+    bytes: &Bytes,
+    parts: &Items<u64>,
+) -> Result<(), NoMemory>
     ensures { OnOk result (core.new ≡ end_changed (with_message bytes.now parts.now) id core.old) }
 {
     let place = place_of_object(core.objects.as_slice(), id);
@@ -136,7 +145,13 @@ fn add_message(core: &mut CoreState, id: u64, bytes: &Bytes, parts: &Items<u64>)
     Ok(())
 }
 
-fn deliver(core: &mut CoreState, id: u64, peer: Option<u64>, bytes: &Bytes, parts: &Items<u64>) -> Result<Told, NoMemory>
+fn deliver(
+    core: &mut CoreState,
+    id: u64,
+    peer: Option<u64>,
+    bytes: &Bytes,
+    parts: &Items<u64>,
+) -> Result<Told, NoMemory>
     ensures { IfOk result (λ told. outcome told core.new ≡ deliver core.old id peer (peer_end core.old.objects peer) bytes.now parts.now) }
 {
     let Some(peer) = peer else {
@@ -164,7 +179,14 @@ fn deliver(core: &mut CoreState, id: u64, peer: Option<u64>, bytes: &Bytes, part
 }
 
 #[tactic(auto, unfolding(crate::specs::Tests::part_object, crate::specs::Tests::send_with_parts))]
-fn send_parts(core: &mut CoreState, app: u32, id: u64, peer: Option<u64>, bytes: &Bytes, parts: &[u32]) -> Result<Told, NoMemory>
+fn send_parts(
+    core: &mut CoreState,
+    app: u32,
+    id: u64,
+    peer: Option<u64>,
+    bytes: &Bytes,
+    parts: &[u32],
+) -> Result<Told, NoMemory>
     ensures { IfOk result (λ told. outcome told core.new ≡ send_with_parts core.old id (table_of core.old app) peer bytes.now parts.now) }
 {
     if !are_in_table(table_of(core, app), parts) {
@@ -177,7 +199,13 @@ fn send_parts(core: &mut CoreState, app: u32, id: u64, peer: Option<u64>, bytes:
     deliver(core, id, peer, bytes, &objects)
 }
 
-fn send_from(core: &mut CoreState, app: u32, id: u64, bytes: &Bytes, parts: &[u32]) -> Result<Told, NoMemory>
+fn send_from(
+    core: &mut CoreState,
+    app: u32,
+    id: u64,
+    bytes: &Bytes,
+    parts: &[u32],
+) -> Result<Told, NoMemory>
     ensures { IfOk result (λ told. outcome told core.new ≡ send_by_end core.old id (table_of core.old app) bytes.now parts.now (end_of core.old.objects id)) }
 {
     let Some(end) = find_end(core.objects.as_slice(), id) else {
@@ -201,7 +229,13 @@ fn send_from(core: &mut CoreState, app: u32, id: u64, bytes: &Bytes, parts: &[u3
 
 /// Sends a message with the memory references that the numbers name.
 #[tactic(auto, unfolding(kernel_types::specs::Messages::send, crate::specs::Tests::send_with_parts))]
-pub fn send_call(core: &mut CoreState, app: u32, chan: u32, bytes: &Bytes, parts: &Handles) -> Result<Told, NoMemory>
+pub fn send_call(
+    core: &mut CoreState,
+    app: u32,
+    chan: u32,
+    bytes: &Bytes,
+    parts: &Handles,
+) -> Result<Told, NoMemory>
     ensures { IfOk result (λ told. outcome told core.new ≡ send core.old app chan bytes.now parts.now) }
 {
     let Some(entry) = find_entry(table_of(core, app), chan) else {

@@ -93,7 +93,14 @@ fn set_add_to(core: &mut CoreState, id: u64, member: Member) -> Result<Told, NoM
 
 /// Adds a member under the number of its handle.
 #[tactic(auto, unfolding(kernel_types::specs::Sets::set_add))]
-pub fn set_add_call(core: &mut CoreState, app: u32, set: u32, handle: u32, mask: Events, cookie: u64) -> Result<Told, NoMemory>
+pub fn set_add_call(
+    core: &mut CoreState,
+    app: u32,
+    set: u32,
+    handle: u32,
+    mask: Events,
+    cookie: u64,
+) -> Result<Told, NoMemory>
     ensures { IfOk result (λ told. outcome told core.new ≡ set_add core.old app set handle mask cookie) }
 {
     let Some(outer) = find_entry(table_of(core, app), set) else {
@@ -178,7 +185,14 @@ fn change_member(core: &mut CoreState, id: u64, label: u32, mask: Events, cookie
 
 /// Gives the member under this label another mask and cookie.
 #[tactic(auto, unfolding(kernel_types::specs::Sets::set_mod))]
-pub fn set_mod_call(core: &mut CoreState, app: u32, set: u32, label: u32, mask: Events, cookie: u64) -> Result<Told, NoMemory>
+pub fn set_mod_call(
+    core: &mut CoreState,
+    app: u32,
+    set: u32,
+    label: u32,
+    mask: Events,
+    cookie: u64,
+) -> Result<Told, NoMemory>
     ensures { IfOk result (λ told. outcome told core.new ≡ set_mod core.old app set label mask cookie) }
 {
     let Some(entry) = find_entry(table_of(core, app), set) else {

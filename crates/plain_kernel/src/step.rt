@@ -21,7 +21,9 @@ use crate::threads::run_again;
 use crate::told::Told;
 use crate::wait_calls::{wait_any_call, wait_call};
 use crate::waits::end_wait;
-use kernel_values::{Activity, Answer, Call, CoreState, Event, Items, NoMemory, Seqs, Thread, World};
+use kernel_values::{
+    Activity, Answer, Call, CoreState, Event, Items, NoMemory, Seqs, Thread, World,
+};
 use std::alloc::Global;
 
 /// Whether the call has a body: those of the normal world have none yet.
@@ -31,7 +33,10 @@ fn is_built_call(call: &Call) -> bool
     match call {
         Call::NsConnect { path: _ } => false,
         Call::NsSend { conn: _, bytes: _ } => false,
-        Call::NsRecv { conn: _, timeout: _ } => false,
+        Call::NsRecv {
+            conn: _,
+            timeout: _,
+        } => false,
         Call::NsClose { conn: _ } => false,
         Call::NsPoke { addr: _, bytes: _ } => false,
         Call::NsKick { queue: _, head: _ } => false,
@@ -41,27 +46,61 @@ fn is_built_call(call: &Call) -> bool
 
 /// The call of a thread of `app`; the calls of the normal world are none.
 #[tactic(auto, unfolding(kernel_types::specs::Step::act))]
-fn act_on(core: &mut CoreState, thread: u32, app: u32, call: &Call) -> Result<Option<Told>, NoMemory>
+fn act_on(
+    core: &mut CoreState,
+    thread: u32,
+    app: u32,
+    call: &Call,
+) -> Result<Option<Told>, NoMemory>
     ensures { IfOk result (λ told. outcome_if told core.new ≡ act core.old thread app call.now) }
 {
     Ok(Some(match call {
-        Call::PortCreate { path, bufs, size, flags } => port_create_call(core, app, path, *bufs, *size, *flags)?,
+        Call::PortCreate {
+            path,
+            bufs,
+            size,
+            flags,
+        } => port_create_call(core, app, path, *bufs, *size, *flags)?,
         Call::Connect { path, flags } => connect_call(core, thread, app, path, *flags)?,
         Call::Accept { port } => accept_call(core, app, *port)?,
         Call::Send { chan, bytes, parts } => send_call(core, app, *chan, bytes, parts)?,
         Call::Get { chan } => get_call(core, app, *chan)?,
-        Call::Read { chan, id, offset, room, parts } => read_call(core, app, *chan, *id, *offset, *room, *parts)?,
+        Call::Read {
+            chan,
+            id,
+            offset,
+            room,
+            parts,
+        } => read_call(core, app, *chan, *id, *offset, *room, *parts)?,
         Call::Put { chan, id } => put_call(core, app, *chan, *id)?,
         Call::SetCookie { handle, cookie } => set_cookie_call(core, app, *handle, *cookie)?,
         Call::Close { handle } => close_call(core, app, *handle)?,
         Call::Dup { handle } => dup_call(core, app, *handle)?,
         Call::SetCreate => set_create_call(core, app)?,
-        Call::SetAdd { set, handle, mask, cookie } => set_add_call(core, app, *set, *handle, *mask, *cookie)?,
+        Call::SetAdd {
+            set,
+            handle,
+            mask,
+            cookie,
+        } => set_add_call(core, app, *set, *handle, *mask, *cookie)?,
         Call::SetDel { set, label } => set_del_call(core, app, *set, *label)?,
-        Call::SetMod { set, label, mask, cookie } => set_mod_call(core, app, *set, *label, *mask, *cookie)?,
+        Call::SetMod {
+            set,
+            label,
+            mask,
+            cookie,
+        } => set_mod_call(core, app, *set, *label, *mask, *cookie)?,
         Call::MemCreate { size, flags } => mem_create_call(core, app, *size, *flags)?,
-        Call::MemRead { handle, offset, len } => mem_read_call(core, app, *handle, *offset, *len)?,
-        Call::MemWrite { handle, offset, bytes } => mem_write_call(core, app, *handle, *offset, bytes)?,
+        Call::MemRead {
+            handle,
+            offset,
+            len,
+        } => mem_read_call(core, app, *handle, *offset, *len)?,
+        Call::MemWrite {
+            handle,
+            offset,
+            bytes,
+        } => mem_write_call(core, app, *handle, *offset, bytes)?,
         Call::Wait { handle, timeout } => wait_call(core, thread, app, *handle, *timeout)?,
         Call::WaitAny { timeout } => wait_any_call(core, thread, app, *timeout)?,
         Call::Exit { code: _ } => exit_call(core, app)?,
@@ -72,7 +111,12 @@ fn act_on(core: &mut CoreState, thread: u32, app: u32, call: &Call) -> Result<Op
 
 /// A call of a thread that runs, by its present start.
 #[tactic(auto, unfolding(kernel_types::specs::Step::core_begin))]
-fn begin(core: &mut CoreState, thread: u32, start: u32, call: &Call) -> Result<Option<Told>, NoMemory>
+fn begin(
+    core: &mut CoreState,
+    thread: u32,
+    start: u32,
+    call: &Call,
+) -> Result<Option<Told>, NoMemory>
     ensures { IfOk result (λ told. outcome_if told core.new ≡ core_begin core.old thread start call.now) }
 {
     let Some(caller) = core.threads.get(thread as usize) else {
@@ -100,7 +144,11 @@ fn resume(core: &mut CoreState, thread: u32, start: u32) -> Result<Option<Told>,
     let Some(waiter) = core.threads.get(thread as usize) else {
         return Ok(None);
     };
-    let Activity::Waiting { start: waiting, wait } = waiter.activity else {
+    let Activity::Waiting {
+        start: waiting,
+        wait,
+    } = waiter.activity
+    else {
         return Ok(None);
     };
     if waiting != start {
@@ -220,7 +268,12 @@ fn idle(core: &mut CoreState) -> Result<Told, NoMemory>
 
 /// The step of an event, where it is lawful; `is_idle` says whether Idle is.
 #[tactic(auto, unfolding(kernel_types::specs::Step::step, kernel_types::specs::Step::full_step))]
-pub fn run_event(core: &mut CoreState, world: &World, event: &Event, is_idle: bool) -> Result<Option<Told>, NoMemory>
+pub fn run_event(
+    core: &mut CoreState,
+    world: &World,
+    event: &Event,
+    is_idle: bool,
+) -> Result<Option<Told>, NoMemory>
     requires { is_idle ≡ idle_lawful (whole core.old world.now) }
     ensures { IfOk result (λ told. stepped_if told core.new world.now ≡ step (whole core.old world.now) event.now) }
 {

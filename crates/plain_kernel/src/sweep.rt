@@ -43,7 +43,12 @@ fn is_served(marked: &[u64], objects: &[Object], server: u64) -> bool
 }
 
 /// The pending server ends whose client ends are marked.
-fn served(alloc: Global, marked: &[u64], objects: &[Object], pending: &[u64]) -> Result<Items<u64>, NoMemory>
+fn served(
+    alloc: Global,
+    marked: &[u64],
+    objects: &[Object],
+    pending: &[u64],
+) -> Result<Items<u64>, NoMemory>
     ensures { IfOk result (λ servers. servers ≡ filter (is_served marked.now objects.now) pending.now) }
 {
     let mut servers = Items::new(alloc);
@@ -56,7 +61,12 @@ fn served(alloc: Global, marked: &[u64], objects: &[Object], pending: &[u64]) ->
 }
 
 #[tactic(auto, unfolding(crate::specs::Tests::is_served))]
-fn pruned_object(alloc: Global, marked: &[u64], objects: &[Object], object: &Object) -> Result<Object, NoMemory>
+fn pruned_object(
+    alloc: Global,
+    marked: &[u64],
+    objects: &[Object],
+    object: &Object,
+) -> Result<Object, NoMemory>
     ensures { IfOk result (λ other. other ≡ on_body (on_port (pruned_port marked.now objects.now)) object.now) }
 {
     let mut copy = object.copied()?;
@@ -66,7 +76,11 @@ fn pruned_object(alloc: Global, marked: &[u64], objects: &[Object], object: &Obj
     Ok(copy)
 }
 
-fn pruned_objects(alloc: Global, marked: &[u64], objects: &[Object]) -> Result<Items<Object>, NoMemory>
+fn pruned_objects(
+    alloc: Global,
+    marked: &[u64],
+    objects: &[Object],
+) -> Result<Items<Object>, NoMemory>
     ensures { IfOk result (λ others. others ≡ map (on_body (on_port (pruned_port marked.now objects.now))) objects.now) }
 {
     let mut others = Items::new(alloc);
@@ -97,7 +111,11 @@ fn cut_object(marked: &[u64], object: &Object) -> Result<Object, NoMemory>
     Ok(copy)
 }
 
-fn kept_objects(alloc: Global, marked: &[u64], objects: &[Object]) -> Result<Items<Object>, NoMemory>
+fn kept_objects(
+    alloc: Global,
+    marked: &[u64],
+    objects: &[Object],
+) -> Result<Items<Object>, NoMemory>
     ensures { IfOk result (λ others. others ≡ map (on_body (on_end (cut_end marked.now))) (filter (λ object. is_in marked.now object.id) objects.now)) }
 {
     let mut others = Items::new(alloc);

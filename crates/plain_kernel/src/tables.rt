@@ -108,7 +108,11 @@ pub fn install(core: &mut CoreState, app: u32, object: u64) -> Result<(), NoMemo
 }
 
 /// The table without a number.
-fn table_without(alloc: Global, table: &[TableEntry], handle: u32) -> Result<Items<TableEntry>, NoMemory>
+fn table_without(
+    alloc: Global,
+    table: &[TableEntry],
+    handle: u32,
+) -> Result<Items<TableEntry>, NoMemory>
     ensures { IfOk result (λ others. others ≡ without table.now handle) }
 {
     let mut others = Items::new(alloc);
@@ -125,7 +129,11 @@ pub fn remove_entry(core: &mut CoreState, app: u32, handle: u32) -> Result<(), N
     ensures { OnOk result (core.new ≡ remove_entry app handle core.old) }
 {
     if let Some(application) = core.apps.get_mut(app as usize) {
-        let others = table_without(application.table.allocator(), application.table.as_slice(), handle)?;
+        let others = table_without(
+            application.table.allocator(),
+            application.table.as_slice(),
+            handle,
+        )?;
         application.table = others;
     }
     Ok(())

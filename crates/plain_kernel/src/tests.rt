@@ -2,7 +2,10 @@
 
 use crate::PlainKernel;
 use kernel_types::IpcKernel;
-use kernel_values::{ActorId, Answer, App, Bytes, Call, ConnectFlags, Errno, Event, Items, Manifest, NoMemory, PortFlags, Reply, Scene, Script};
+use kernel_values::{
+    ActorId, Answer, App, Bytes, Call, ConnectFlags, Errno, Event, Items, Manifest, NoMemory,
+    PortFlags, Reply, Scene, Script,
+};
 use std::alloc::Global;
 use std::test::Fail;
 

@@ -32,7 +32,13 @@ fn is_zero_timeout(timeout: Timeout) -> bool
 }
 
 /// With something to report the answer comes in this step; else the call waits.
-fn begin_wait(core: &mut CoreState, thread: u32, app: u32, on: WaitOn, timeout: Timeout) -> Result<Told, NoMemory>
+fn begin_wait(
+    core: &mut CoreState,
+    thread: u32,
+    app: u32,
+    on: WaitOn,
+    timeout: Timeout,
+) -> Result<Told, NoMemory>
     ensures { IfOk result (λ told. outcome told core.new ≡ begin_wait core.old thread app on timeout) }
 {
     if let Some(found) = take_report(core, app, on)? {
@@ -47,7 +53,13 @@ fn begin_wait(core: &mut CoreState, thread: u32, app: u32, on: WaitOn, timeout: 
 
 /// Waits for an event of an object.
 #[tactic(auto, unfolding(kernel_types::specs::Waits::wait))]
-pub fn wait_call(core: &mut CoreState, thread: u32, app: u32, handle: u32, timeout: Timeout) -> Result<Told, NoMemory>
+pub fn wait_call(
+    core: &mut CoreState,
+    thread: u32,
+    app: u32,
+    handle: u32,
+    timeout: Timeout,
+) -> Result<Told, NoMemory>
     ensures { IfOk result (λ told. outcome told core.new ≡ wait core.old thread app handle timeout) }
 {
     let Some(entry) = find_entry(table_of(core, app), handle) else {
@@ -83,7 +95,12 @@ fn any_can_have_events(objects: &[Object], table: &[TableEntry]) -> bool
 
 /// Waits for an event of any number of the table.
 #[tactic(auto, unfolding(kernel_types::specs::Waits::wait_any))]
-pub fn wait_any_call(core: &mut CoreState, thread: u32, app: u32, timeout: Timeout) -> Result<Told, NoMemory>
+pub fn wait_any_call(
+    core: &mut CoreState,
+    thread: u32,
+    app: u32,
+    timeout: Timeout,
+) -> Result<Told, NoMemory>
     ensures { IfOk result (λ told. outcome told core.new ≡ wait_any core.old thread app timeout) }
 {
     if !any_can_have_events(core.objects.as_slice(), table_of(core, app)) {

@@ -44,7 +44,11 @@ pub fn end_wait(core: &mut CoreState, app: u32, wait: Wait) -> Result<Option<Tol
 {
     match wait.on {
         WaitOn::Connect { end, handle } => decide_connect(core, app, end, handle, wait.cancelled),
-        WaitOn::Object { object: _, handle: _, cookie: _ } => end_by_report(core, app, wait),
+        WaitOn::Object {
+            object: _,
+            handle: _,
+            cookie: _,
+        } => end_by_report(core, app, wait),
         WaitOn::Any => end_by_report(core, app, wait),
     }
 }
@@ -62,8 +66,18 @@ fn may_end(core: &CoreState, app: u32, wait: Wait) -> bool
     ensures { result ≡ is_some (end_of_wait core.now app wait) }
 {
     match wait.on {
-        WaitOn::Connect { end, handle } => is_connect_decided(core, app, end, handle, wait.cancelled),
-        WaitOn::Object { object: _, handle: _, cookie: _ } => may_end_by_report(core, app, wait),
+        WaitOn::Connect { end, handle } => is_connect_decided(
+            core,
+            app,
+            end,
+            handle,
+            wait.cancelled,
+        ),
+        WaitOn::Object {
+            object: _,
+            handle: _,
+            cookie: _,
+        } => may_end_by_report(core, app, wait),
         WaitOn::Any => may_end_by_report(core, app, wait),
     }
 }
