@@ -1,0 +1,3 @@
+pub mod Descending
+pub mod Numbers
+pub mod Waiting

@@ -1,0 +1,236 @@
+//! The plain kernel.
+
+ghost use Rattle.std.specs.Prelude.{IfOk, ◌≡◌, IfErr};
+ghost use Rattle.kernel_types.specs.Names.{naming};
+ghost use Rattle.kernel_types.specs.Facts.{facts_of};
+ghost use Rattle.kernel_types.specs.Step.{statuses, idle_lawful, step};
+ghost use Rattle.plain_kernel.specs.Steps.{whole, stepped_if};
+ghost use Rattle.kernel_types.specs.Opening.{opening};
+ghost use Rattle.kernel_types.specs.Kernel.{status_for, CauseHolds};
+ghost use Rattle.plain_kernel.specs.Ready.{IsReady};
+
+use crate::events::events_of;
+use crate::facts::{any_goes_on, any_runs, facts_of, none_goes_on, statuses_of};
+use crate::names::{Naming, count_names, names_in};
+use crate::objects::is_object_there;
+use crate::opening::{opening_core, opening_world};
+use crate::step::run_event;
+use crate::told::Told;
+use crate::waits::{any_may_move, is_movable};
+use kernel_types::{IpcKernel, StepCause, StepRefused};
+use kernel_values::{
+    ActorId, ActorStatus, Copied, CoreState, EndFacts, Entry, Event, Events, Items, NoMemory,
+    ObjId, Scene, World,
+};
+use std::alloc::Global;
+use std::marker::Model;
+
+/// A state of the model with what is told of it, and the number of steps made.
+#[derive(Debug, Drop)]
+pub struct PlainKernel {
+    core: CoreState,
+    world: World,
+    names: Items<Naming>,
+    facts: EndFacts,
+    actors: Items<ActorStatus>,
+    made: u32,
+}
+
+impl Model for PlainKernel {
+    ghost use Rattle.std.specs.Prelude.{◌≡◌};
+    ghost use Rattle.plain_kernel.specs.Standing.{Standing};
+    ghost use Rattle.plain_kernel.specs.Steps.{whole};
+    ghost use Rattle.kernel_types.specs.Names.{naming};
+    ghost use Rattle.kernel_types.specs.Facts.{facts_of};
+    ghost use Rattle.kernel_types.specs.Step.{statuses};
+
+    ghost Value = { Standing };
+
+    ghost view = { λ k. record { state = whole k.core k.world; made = k.made } };
+
+    ghost invariant = { λ k. (k.names ≡ naming k.core) × (k.facts ≡ facts_of k.core) × (k.actors ≡ statuses (whole k.core k.world)) };
+}
+
+/// A state after a step, with what is told of it and of the step.
+#[derive(Debug, Drop)]
+struct Next {
+    core: CoreState,
+    names: Items<Naming>,
+    facts: EndFacts,
+    statuses: Items<ActorStatus>,
+    told: Told,
+}
+
+fn ready(core: CoreState, world: &World, told: Told) -> Result<Next, NoMemory>
+    ensures core_is { IfOk result (λ next. next.core ≡ core) }
+    ensures told_is { IfOk result (λ next. next.told ≡ told) }
+    ensures names_are { IfOk result (λ next. next.names ≡ naming core) }
+    ensures facts_are { IfOk result (λ next. next.facts ≡ facts_of core) }
+    ensures statuses_are { IfOk result (λ next. next.statuses ≡ statuses (whole core world.now)) }
+{
+    let names = names_in(&core)?;
+    let facts = facts_of(&core, names.as_slice())?;
+    let statuses = statuses_of(&core, world)?;
+    Ok(Next {
+        core,
+        names,
+        facts,
+        statuses,
+        told,
+    })
+}
+
+impl PlainKernel {
+    /// A kernel in the state in which the scene begins.
+    #[tactic(auto, unfolding(kernel_types::specs::Opening::opening))]
+    pub fn new(alloc: Global, scene: &Scene) -> Result<PlainKernel, NoMemory>
+        ensures state_is { IfOk result (λ kernel. kernel.state ≡ opening scene.now) }
+        ensures made_is { IfOk result (λ kernel. kernel.made ≡ 0) }
+    {
+        let core = opening_core(alloc, scene.apps.as_slice())?;
+        let world = opening_world(alloc, scene.clients.as_slice())?;
+        let names = names_in(&core)?;
+        let facts = facts_of(&core, names.as_slice())?;
+        let statuses = statuses_of(&core, &world)?;
+        Ok(PlainKernel {
+            core,
+            world,
+            names,
+            facts,
+            actors: statuses,
+            made: 0,
+        })
+    }
+
+    #[tactic(auto, unfolding(kernel_types::specs::Step::idle_lawful, kernel_types::specs::Step::device_has_work))]
+    fn is_idle(&self) -> bool
+        ensures { result ≡ idle_lawful self.now.state }
+    {
+        any_goes_on(self.actors.as_slice())
+            && !any_runs(self.actors.as_slice())
+            && !any_may_move(&self.core)
+    }
+
+    fn status_for(&self, event: &Event) -> Option<ActorStatus>
+        ensures { result ≡ status_for self.now.state event.now }
+    {
+        match event {
+            Event::Begin {
+                actor,
+                start: _,
+                call: _,
+            } => self.actors.get(actor.0 as usize).copied(),
+            Event::Resume { actor, start: _ } => self.actors.get(actor.0 as usize).copied(),
+            Event::Device | Event::Idle => None,
+        }
+    }
+
+    /// What the event tells in a copy of the state, with the copy.
+    fn try_event(&self, event: &Event) -> Result<(CoreState, Option<Told>), NoMemory>
+        ensures { IfOk result (λ (core, told). stepped_if told core self.now.state.world ≡ step self.now.state event.now) }
+    {
+        let is_idle = self.is_idle();
+        let mut core = self.core.copied()?;
+        let told = run_event(&mut core, &self.world, event, is_idle)?;
+        Ok((core, told))
+    }
+
+    #[tactic(auto, unfolding(kernel_types::specs::Kernel::step_limit))]
+    fn try_step(&self, event: &Event) -> Result<Next, StepCause>
+        ensures done { IfOk result (λ next. IsReady event.now self.now.state self.now.made next) }
+        ensures refused { IfErr result (λ cause. CauseHolds event.now self.now.state self.now.made cause) }
+    {
+        let Ok((core, told)) = self.try_event(event) else {
+            return Err(StepCause::NoMemory);
+        };
+        let Some(told) = told else {
+            return Err(StepCause::NotMovable(self.status_for(event)));
+        };
+        if self.made == u32::MAX {
+            return Err(StepCause::Full);
+        }
+        match ready(core, &self.world, told) {
+            Ok(next) => Ok(next),
+            Err(_) => Err(StepCause::NoMemory),
+        }
+    }
+}
+
+impl IpcKernel for PlainKernel {
+    ghost state = { λ k. k.state };
+
+    ghost made = { λ k. k.made };
+
+    ghost spares = { λ k event. ⊥ };
+
+    #[tactic(auto, unfolding(kernel_types::specs::Kernel::step_limit))]
+    fn step(&mut self, event: Event) -> Result<Entry, StepRefused> {
+        match self.try_step(&event) {
+            Ok(next) => {
+                self.core = next.core;
+                self.names = next.names;
+                self.facts = next.facts;
+                self.actors = next.statuses;
+                self.made += 1;
+                Ok(Entry {
+                    event,
+                    answer: next.told.answer,
+                    seqs: next.told.seqs,
+                })
+            }
+            Err(cause) => Err(StepRefused { event, cause }),
+        }
+    }
+
+    fn status(&self, actor: ActorId) -> ActorStatus {
+        match self.actors.get(actor.0 as usize) {
+            Some(status) => *status,
+            None => unreachable!(),
+        }
+    }
+
+    #[tactic(auto, unfolding(kernel_types::specs::Step::movable))]
+    fn movable(&self, actor: ActorId) -> bool {
+        is_movable(&self.core, actor.0)
+    }
+
+    fn is_client(&self, actor: ActorId) -> bool {
+        let at = actor.0 as usize;
+        self.core.threads.len() <= at && at < self.actors.len()
+    }
+
+    #[tactic(auto, unfolding(kernel_types::specs::Step::device_has_work))]
+    fn device_has_work(&self) -> bool {
+        false
+    }
+
+    fn idle_lawful(&self) -> bool {
+        self.is_idle()
+    }
+
+    #[tactic(auto, unfolding(kernel_types::specs::Facts::is_at_end, kernel_types::specs::Step::device_has_work))]
+    fn whole(&self) -> bool {
+        none_goes_on(self.actors.as_slice())
+    }
+
+    fn end_facts(&self) -> EndFacts {
+        self.facts
+    }
+
+    fn names(&self, object: ObjId) -> Option<u64> {
+        if is_object_there(self.core.objects.as_slice(), object.0) {
+            Some(count_names(self.names.as_slice(), object.0) as u64)
+        } else {
+            None
+        }
+    }
+
+    fn events(&self, object: ObjId) -> Option<Events> {
+        let objects = self.core.objects.as_slice();
+        if is_object_there(objects, object.0) {
+            Some(Events(events_of(objects, object.0)))
+        } else {
+            None
+        }
+    }
+}

@@ -1,0 +1,39 @@
+//! The plain kernel: the definitions of the model as a program, with lists and marking and no
+//! cleverness. Every step copies the state, changes the copy and puts it in place.
+#![tactic(auto)]
+
+mod accepts;
+mod applications;
+mod connects;
+mod depths;
+mod ends;
+mod events;
+mod facts;
+mod handles;
+mod installs;
+pub mod kernel;
+mod memberships;
+mod memories;
+mod messages;
+mod names;
+mod objects;
+mod opening;
+mod ports;
+mod queues;
+mod reach;
+mod reports;
+mod sends;
+mod sets;
+mod step;
+mod sweep;
+mod tables;
+mod threads;
+mod told;
+mod wait_calls;
+mod waits;
+mod words;
+
+pub use kernel::PlainKernel;
+
+#[cfg(test)]
+mod tests;

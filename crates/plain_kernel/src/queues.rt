@@ -1,0 +1,118 @@
+//! The messages of one end: the oldest that is filled, those that are open, and their ids.
+
+ghost use Rattle.std.specs.Option.{option_copied};
+ghost use Rattle.std.specs.Prelude.{◌≡◌, ◌≤◌, IfOk};
+ghost use Rattle.std.specs.List.{find, position_or_len, filter};
+ghost use Rattle.kernel_types.specs.Events.{is_filled};
+ghost use Rattle.kernel_types.specs.Messages.{is_opened_as, is_free_id, free_id};
+ghost use Rattle.plain_kernel.specs.Counting.{free_id_below};
+ghost use Rattle.plain_kernel.specs.Tests.{is_another};
+
+use kernel_values::{Copied, Items, Message, NoMemory};
+use std::alloc::Global;
+
+/// The oldest message that is filled.
+pub fn find_filled(messages: &[Message]) -> Option<&Message>
+    ensures { option_copied result ≡ find is_filled messages.now }
+{
+    for message in messages {
+        if message.opened.is_none() {
+            return Some(message);
+        }
+    }
+    None
+}
+
+/// The place of the oldest message that is filled; past the end where there is none.
+pub fn place_of_filled(messages: &[Message]) -> usize
+    ensures { result ≡ position_or_len is_filled messages.now }
+{
+    for (at, message) in messages.iter().enumerate() {
+        if message.opened.is_none() {
+            return at;
+        }
+    }
+    messages.len()
+}
+
+fn is_opened_as(message: &Message, id: u32) -> bool
+    ensures { result ≡ is_opened_as id message.now }
+{
+    match message.opened {
+        Some(other) => other == id,
+        None => false,
+    }
+}
+
+/// The message that is open under this id.
+pub fn find_opened(messages: &[Message], id: u32) -> Option<&Message>
+    ensures { option_copied result ≡ find (is_opened_as id) messages.now }
+{
+    for message in messages {
+        if is_opened_as(message, id) {
+            return Some(message);
+        }
+    }
+    None
+}
+
+fn is_free_id(messages: &[Message], id: u32) -> bool
+    ensures { result ≡ is_free_id messages.now id }
+{
+    for message in messages {
+        if is_opened_as(message, id) {
+            return false;
+        }
+    }
+    true
+}
+
+/// The least free id from 1 and below the limit; 0 where there is none.
+fn free_id_below(messages: &[Message], limit: u32) -> u32
+    requires { 1 ≤ limit }
+    ensures { result ≡ free_id_below messages.now limit }
+{
+    for id in 1..limit {
+        if is_free_id(messages, id) {
+            return id;
+        }
+    }
+    0
+}
+
+/// The least number from 1 that no open message has.
+#[tactic(auto, unfolding(kernel_types::specs::Messages::free_id, crate::specs::Counting::free_id_below))]
+pub fn least_free_id(messages: &[Message]) -> Result<u32, NoMemory>
+    ensures { IfOk result (λ id. id ≡ free_id messages.now) }
+{
+    if messages.len() > 0x7FFF_FFFF {
+        return Err(NoMemory);
+    }
+    let limit = messages.len() as u32 + 2;
+    Ok(free_id_below(messages, limit))
+}
+
+/// Whether the message is not the one that is open under this id.
+#[tactic(auto, unfolding(crate::specs::Tests::is_another))]
+fn is_another(message: &Message, id: u32) -> bool
+    ensures { result ≡ is_another id message.now }
+{
+    !is_opened_as(message, id)
+}
+
+/// The messages without the one that is open under this id.
+pub fn messages_without(
+    alloc: Global,
+    messages: &[Message],
+    id: u32,
+) -> Result<Items<Message>, NoMemory>
+    ensures { IfOk result (λ others. others ≡ filter (is_another id) messages.now) }
+{
+    let mut others = Items::new(alloc);
+    for message in messages {
+        if is_another(message, id) {
+            others.push(message.copied()?)?;
+        }
+    }
+    Ok(others)
+}

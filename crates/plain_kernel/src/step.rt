@@ -1,0 +1,298 @@
+//! One step: which events are lawful, and what each answers and leaves.
+
+ghost use Rattle.std.specs.Prelude.{◌≡◌, IfOk, map, OnOk};
+ghost use Rattle.kernel_types.specs.Built.{is_built};
+ghost use Rattle.plain_kernel.specs.Shown.{outcome_if, outcome};
+ghost use Rattle.kernel_types.specs.Step.{act, core_begin, core_resume, deadline_in, sooner, least_deadline_of, least_deadline, cancelled_activity, core_idle, idle_answer, idle_lawful, step};
+ghost use Rattle.kernel_types.specs.Threads.{activity_changed};
+ghost use Rattle.plain_kernel.specs.Steps.{idle_outcome, whole, stepped_if};
+
+use crate::accepts::accept_call;
+use crate::applications::{exit_call, finish_call};
+use crate::connects::connect_call;
+use crate::handles::{close_call, dup_call, set_cookie_call};
+use crate::memories::{mem_create_call, mem_read_call, mem_write_call};
+use crate::messages::{get_call, put_call, read_call};
+use crate::ports::port_create_call;
+use crate::sends::send_call;
+use crate::sets::{set_add_call, set_create_call, set_del_call, set_mod_call};
+use crate::sweep::sweep_state;
+use crate::threads::run_again;
+use crate::told::Told;
+use crate::wait_calls::{wait_any_call, wait_call};
+use crate::waits::end_wait;
+use kernel_values::{
+    Activity, Answer, Call, CoreState, Event, Items, NoMemory, Seqs, Thread, World,
+};
+use std::alloc::Global;
+
+/// Whether the call has a body: those of the normal world have none yet.
+fn is_built_call(call: &Call) -> bool
+    ensures { result ≡ is_built call.now }
+{
+    match call {
+        Call::NsConnect { path: _ } => false,
+        Call::NsSend { conn: _, bytes: _ } => false,
+        Call::NsRecv {
+            conn: _,
+            timeout: _,
+        } => false,
+        Call::NsClose { conn: _ } => false,
+        Call::NsPoke { addr: _, bytes: _ } => false,
+        Call::NsKick { queue: _, head: _ } => false,
+        _ => true,
+    }
+}
+
+/// The call of a thread of `app`; the calls of the normal world are none.
+#[tactic(auto, unfolding(kernel_types::specs::Step::act))]
+fn act_on(
+    core: &mut CoreState,
+    thread: u32,
+    app: u32,
+    call: &Call,
+) -> Result<Option<Told>, NoMemory>
+    ensures { IfOk result (λ told. outcome_if told core.new ≡ act core.old thread app call.now) }
+{
+    Ok(Some(match call {
+        Call::PortCreate {
+            path,
+            bufs,
+            size,
+            flags,
+        } => port_create_call(core, app, path, *bufs, *size, *flags)?,
+        Call::Connect { path, flags } => connect_call(core, thread, app, path, *flags)?,
+        Call::Accept { port } => accept_call(core, app, *port)?,
+        Call::Send { chan, bytes, parts } => send_call(core, app, *chan, bytes, parts)?,
+        Call::Get { chan } => get_call(core, app, *chan)?,
+        Call::Read {
+            chan,
+            id,
+            offset,
+            room,
+            parts,
+        } => read_call(core, app, *chan, *id, *offset, *room, *parts)?,
+        Call::Put { chan, id } => put_call(core, app, *chan, *id)?,
+        Call::SetCookie { handle, cookie } => set_cookie_call(core, app, *handle, *cookie)?,
+        Call::Close { handle } => close_call(core, app, *handle)?,
+        Call::Dup { handle } => dup_call(core, app, *handle)?,
+        Call::SetCreate => set_create_call(core, app)?,
+        Call::SetAdd {
+            set,
+            handle,
+            mask,
+            cookie,
+        } => set_add_call(core, app, *set, *handle, *mask, *cookie)?,
+        Call::SetDel { set, label } => set_del_call(core, app, *set, *label)?,
+        Call::SetMod {
+            set,
+            label,
+            mask,
+            cookie,
+        } => set_mod_call(core, app, *set, *label, *mask, *cookie)?,
+        Call::MemCreate { size, flags } => mem_create_call(core, app, *size, *flags)?,
+        Call::MemRead {
+            handle,
+            offset,
+            len,
+        } => mem_read_call(core, app, *handle, *offset, *len)?,
+        Call::MemWrite {
+            handle,
+            offset,
+            bytes,
+        } => mem_write_call(core, app, *handle, *offset, bytes)?,
+        Call::Wait { handle, timeout } => wait_call(core, thread, app, *handle, *timeout)?,
+        Call::WaitAny { timeout } => wait_any_call(core, thread, app, *timeout)?,
+        Call::Exit { code: _ } => exit_call(core, app)?,
+        Call::Finish => finish_call(core, thread, app)?,
+        _ => return Ok(None),
+    }))
+}
+
+/// A call of a thread that runs, by its present start.
+#[tactic(auto, unfolding(kernel_types::specs::Step::core_begin))]
+fn begin(
+    core: &mut CoreState,
+    thread: u32,
+    start: u32,
+    call: &Call,
+) -> Result<Option<Told>, NoMemory>
+    ensures { IfOk result (λ told. outcome_if told core.new ≡ core_begin core.old thread start call.now) }
+{
+    let Some(caller) = core.threads.get(thread as usize) else {
+        return Ok(None);
+    };
+    let Activity::Running { start: running } = caller.activity else {
+        return Ok(None);
+    };
+    if running != start {
+        return Ok(None);
+    }
+    let app = caller.app;
+    let Some(told) = act_on(core, thread, app, call)? else {
+        return Ok(None);
+    };
+    sweep_state(core)?;
+    Ok(Some(told))
+}
+
+/// The end of a wait of a thread, by its present start: the thread runs again.
+#[tactic(auto, unfolding(kernel_types::specs::Step::core_resume))]
+fn resume(core: &mut CoreState, thread: u32, start: u32) -> Result<Option<Told>, NoMemory>
+    ensures { IfOk result (λ told. outcome_if told core.new ≡ core_resume core.old thread start) }
+{
+    let Some(waiter) = core.threads.get(thread as usize) else {
+        return Ok(None);
+    };
+    let Activity::Waiting {
+        start: waiting,
+        wait,
+    } = waiter.activity
+    else {
+        return Ok(None);
+    };
+    if waiting != start {
+        return Ok(None);
+    }
+    let app = waiter.app;
+    let Some(told) = end_wait(core, app, wait)? else {
+        return Ok(None);
+    };
+    run_again(core, thread);
+    sweep_state(core)?;
+    Ok(Some(told))
+}
+
+fn deadline_in(activity: Activity) -> Option<u64>
+    ensures { result ≡ deadline_in activity }
+{
+    match activity {
+        Activity::Waiting { start: _, wait } => wait.deadline,
+        _ => None,
+    }
+}
+
+fn sooner(one: Option<u64>, other: Option<u64>) -> Option<u64>
+    ensures { result ≡ sooner one other }
+{
+    match (one, other) {
+        (Some(one), Some(other)) => Some(one.min(other)),
+        (Some(one), None) => Some(one),
+        (None, other) => other,
+    }
+}
+
+fn least_deadline_of(threads: &[Thread]) -> Option<u64>
+    ensures { result ≡ least_deadline_of threads.now }
+{
+    match threads {
+        [] => None,
+        [thread, rest @ ..] => sooner(deadline_in(thread.activity), least_deadline_of(rest)),
+    }
+}
+
+/// The least deadline of all waits.
+#[tactic(auto, unfolding(kernel_types::specs::Step::least_deadline))]
+fn least_deadline(core: &CoreState) -> Option<u64>
+    ensures { result ≡ least_deadline core.now }
+{
+    least_deadline_of(core.threads.as_slice())
+}
+
+fn cancelled(thread: &Thread) -> Thread
+    ensures { result ≡ activity_changed cancelled_activity thread.now }
+{
+    let activity = match thread.activity {
+        Activity::Waiting { start, mut wait } => {
+            wait.cancelled = true;
+            Activity::Waiting { start, wait }
+        }
+        other => other,
+    };
+    Thread {
+        app: thread.app,
+        activity,
+    }
+}
+
+fn all_cancelled(alloc: Global, threads: &[Thread]) -> Result<Items<Thread>, NoMemory>
+    ensures { IfOk result (λ others. others ≡ map (activity_changed cancelled_activity) threads.now) }
+{
+    let mut others = Items::new(alloc);
+    for thread in threads {
+        others.push(cancelled(thread))?;
+    }
+    Ok(others)
+}
+
+/// The clock moves to the deadline; without one, every wait is cancelled.
+#[tactic(auto, unfolding(kernel_types::specs::Step::core_idle))]
+fn idle_by(core: &mut CoreState, deadline: Option<u64>) -> Result<(), NoMemory>
+    ensures { OnOk result (core.new ≡ core_idle deadline core.old) }
+{
+    match deadline {
+        Some(deadline) => core.clock = deadline,
+        None => {
+            let threads = all_cancelled(core.threads.allocator(), core.threads.as_slice())?;
+            core.threads = threads;
+        }
+    }
+    Ok(())
+}
+
+fn idle_answer(deadline: Option<u64>) -> Answer
+    ensures { result ≡ idle_answer deadline }
+{
+    match deadline {
+        Some(deadline) => Answer::Clock(deadline),
+        None => Answer::CancelAll,
+    }
+}
+
+/// Nothing else can move.
+fn idle(core: &mut CoreState) -> Result<Told, NoMemory>
+    ensures { IfOk result (λ told. outcome told core.new ≡ idle_outcome core.old) }
+{
+    let deadline = least_deadline(core);
+    idle_by(core, deadline)?;
+    sweep_state(core)?;
+    Ok(Told {
+        answer: idle_answer(deadline),
+        seqs: Seqs {
+            sent: None,
+            opened: None,
+            retired: None,
+        },
+    })
+}
+
+/// The step of an event, where it is lawful; `is_idle` says whether Idle is.
+#[tactic(auto, unfolding(kernel_types::specs::Step::step, kernel_types::specs::Step::full_step))]
+pub fn run_event(
+    core: &mut CoreState,
+    world: &World,
+    event: &Event,
+    is_idle: bool,
+) -> Result<Option<Told>, NoMemory>
+    requires { is_idle ≡ idle_lawful (whole core.old world.now) }
+    ensures { IfOk result (λ told. stepped_if told core.new world.now ≡ step (whole core.old world.now) event.now) }
+{
+    match event {
+        Event::Begin { actor, start, call } => {
+            if is_built_call(call) {
+                begin(core, actor.0, *start, call)
+            } else {
+                Ok(None)
+            }
+        }
+        Event::Resume { actor, start } => resume(core, actor.0, *start),
+        Event::Device => Ok(None),
+        Event::Idle => {
+            if is_idle {
+                Ok(Some(idle(core)?))
+            } else {
+                Ok(None)
+            }
+        }
+    }
+}
