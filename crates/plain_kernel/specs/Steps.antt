@@ -1,7 +1,5 @@
 -- A step of the program in the whole state.
-use Rattle.std.specs.Prelude.{◌≡◌, ℕ, Option, Some, None}
-use Rattle.kernel_values.specs.declared.entry.EndFacts.{EndFacts}
-use Rattle.kernel_values.specs.declared.entry.ActorStatus.{ActorStatus}
+use Rattle.std.specs.Prelude.{Option, Some, None}
 use Rattle.kernel_values.specs.declared.state.CoreState.{CoreState}
 use Rattle.kernel_values.specs.declared.state.World.{World}
 use Rattle.kernel_values.specs.declared.state.State.{State}

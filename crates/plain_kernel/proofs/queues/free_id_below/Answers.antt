@@ -1,5 +1,4 @@
-use Rattle.std.proofs.Common.{rules, ◌≡◌, ℕ, true, false, ◌∙◌, Some, None, sym, ap}
-use Rattle.std.specs.List.{find, range_with_len}
+use Rattle.std.proofs.Common.{rules, ◌≡◌, true, false, ◌∙◌, sym, ap}
 use Rattle.std.specs.Option.{unwrap_or}
 use Rattle.kernel_types.specs.Messages.{is_free_id}
 use Rattle.plain_kernel.specs.Counting.{free_id_below}
