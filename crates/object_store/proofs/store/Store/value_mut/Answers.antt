@@ -1,0 +1,44 @@
+use Rattle.std.proofs.Common.{◌≡◌, true, false, Some, refl, sym, ap, ◌∙◌}
+use Rattle.std.specs.Option.{option_copied_mut}
+use Rattle.object_store.specs.Stock.{with_value}
+use Rattle.object_store.specs.Slots.{is_at}
+use Rattle.object_store.proofs.Changes.{held_listed}
+use Rattle.object_store.proofs.Stock.{slab_len-with_slot, none_here, names-le-total, value_here, write_stock, write_changed, some_since, since_some}
+use Rattle.object_store.proofs.store.Store.value_mut.Goals as goal
+
+pub unwrap-slot-requires : goal.unwrap-slot-requires
+unwrap-slot-requires g c =
+    let there = rw (← c.self.view_is) at c.requires in
+    some_since c.slot_of.result _ c.slot_of.ensures.absent (λ nowhere.
+    let none = held_listed c.self.inside.slab _ _ c.self.invariant.slots ∙ none_here c.self.inside.slab c.args.key.serial nowhere in
+    let absurdly : false ≡ true = rw none at there in
+    cc absurdly)
+
+pub invariant_of-self-lent : goal.invariant_of-self-lent
+invariant_of-self-lent g c = λ w.
+    let slot = c.unwrap-slot.result in
+    let at = since_some c.slot_of.result (λ s. is_at c.self.inside.slab s c.args.key.serial ≡ true) slot c.unwrap-slot.ensures c.slot_of.ensures.found in
+    let was = sym c.get_mut.ensures.value ∙ ap option_copied_mut c.unwrap.ensures in
+    let h = c.unwrap.result.now in
+    let most = names-le-total _ _ _ slot h c.self.invariant was in
+    write_stock _ _ _ _ _ c.self.invariant at h was (with_value w h) refl most.0 _ refl
+
+pub returns : goal.returns
+returns g c =
+    let slot = c.unwrap-slot.result in
+    let at = since_some c.slot_of.result (λ s. is_at c.self.inside.slab s c.args.key.serial ≡ true) slot c.unwrap-slot.ensures c.slot_of.ensures.found in
+    let was = sym c.get_mut.ensures.value ∙ ap option_copied_mut c.unwrap.ensures in
+    let h = c.unwrap.result.now in
+    let most = names-le-total _ _ _ slot h c.self.invariant was in (
+      (
+        refl,
+        λ w.
+            let items = write_changed _ _ _ _ _ c.self.invariant at h was (with_value w h) refl most.0 (with_value w) refl in
+            let len = slab_len-with_slot c.self.inside.slab slot (with_value w h) h was in
+            rw (← c.self.view_is, items, len) refl,
+      ),
+      record {
+        writes_back = tt;
+        value = rw (← c.self.view_is) (value_here _ _ _ _ _ c.self.invariant at h was ∙ ap (λ (x : g.row.T.Denot). Some x) (sym c.value_mut.ensures.value));
+      },
+    )

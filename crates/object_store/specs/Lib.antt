@@ -1,0 +1,4 @@
+pub mod Stock
+pub mod Slots
+pub mod Lending
+pub mod Keys
