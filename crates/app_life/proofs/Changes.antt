@@ -1,5 +1,5 @@
 -- One item of a list after another is changed.
-use Rattle.std.proofs.Common.{◌≡◌, ℕ, ◌+◌, zero, suc, List, [], ◌∷◌, ◌++◌, length, map, take, drop, Option, Some, None, refl, ap, add-one}
+use Rattle.std.proofs.Common.{◌≡◌, ℕ, ◌+◌, zero, suc, List, [], ◌∷◌, ◌++◌, length, map, take, drop, Some, None, refl, ap, add-one}
 use Rattle.std.specs.Prelude.{slice_get, option_map}
 use Rattle.app_life.specs.Lists.{changed_at, set_if}
 

@@ -1,7 +1,6 @@
 -- Applications as manifests beside lives.
-use Rattle.std.proofs.Common.{◌≡◌, ◌≢◌, ℕ, ◌+◌, ◌<◌, zero, suc, Bool, true, false, not, ◌&&◌, List, [], ◌∷◌, length, map, Option, Some, None, refl, ap, sym, ◌∙◌, arith, add-one}
+use Rattle.std.proofs.Common.{◌≡◌, ℕ, ◌+◌, ◌<◌, zero, suc, Bool, true, false, not, ◌&&◌, List, [], ◌∷◌, length, map, Option, Some, None, refl, ap, sym, ◌∙◌, arith}
 use Rattle.std.specs.Prelude.{slice_get, slice_set, option_map, option_and_then, is_some, if◌then◌else◌, nat_lt}
-use Rattle.std.specs.List.{list_all}
 use Rattle.kernel_values.specs.declared.scene.App.{App}
 use Rattle.kernel_values.specs.declared.scene.Manifest.{Manifest}
 use Rattle.kernel_values.specs.declared.state.Application.{Application}
@@ -10,7 +9,7 @@ use Rattle.app_life.specs.declared.life.Life.{Life}
 use Rattle.app_life.specs.declared.threads.ThreadLife.{ThreadLife}
 use Rattle.app_life.specs.Lists.{changed_at, set_if}
 use Rattle.app_life.specs.Lives.{Lives, opening_app, may_start, started_app, started_thread, started_as, started_if_may, ended_app, table_of, app_runs, reported, app_restarts, last_of, app_table, uuid_of}
-use Rattle.app_life.specs.Inside.{application, applications, manifest_of, opening_life, begun, stopped, next_start, life_may_start, life_table, is_left, reported_life, is_within}
+use Rattle.app_life.specs.Inside.{application, applications, manifest_of, opening_life, begun, stopped, next_start, life_table, is_left, reported_life}
 use Rattle.app_life.specs.Lending.{table_set, with_table}
 use Rattle.app_life.proofs.Changes.{later}
 
@@ -81,6 +80,17 @@ last_like (Some app) = refl
 
 pub last_here : (ms : List Manifest) (ls : List Life) (i : ℕ) → length ms ≡ length ls → last_of (slice_get (applications ms ls) i) ≡ life_last (slice_get ls i)
 last_here ms ls i e = last_like (slice_get (applications ms ls) i) ∙ ap life_last (life_at ms ls i e)
+
+abbrev pub life_runs : Option Life → Bool
+life_runs None = false
+life_runs (Some life) = life.running
+
+runs_like : (o : Option Application) → app_runs o ≡ life_runs (option_map life_of o)
+runs_like None = refl
+runs_like (Some app) = refl
+
+pub runs_here : (ms : List Manifest) (ls : List Life) (i : ℕ) → length ms ≡ length ls → app_runs (slice_get (applications ms ls) i) ≡ life_runs (slice_get ls i)
+runs_here ms ls i e = runs_like (slice_get (applications ms ls) i) ∙ ap life_runs (life_at ms ls i e)
 
 abbrev pub one_table : Life → List TableEntry
 one_table life = life.table

@@ -1,12 +1,12 @@
 -- What a map from paths to places has, one port after another.
-use Rattle.std.proofs.Common.{◌≡◌, ℕ, ◌+◌, zero, suc, Bool, true, false, cond, ◌||◌, List, [], ◌∷◌, ◌++◌, length, Option, Some, None, refl, ap, sym, subst, ◌∙◌, arith, add-zero}
+use Rattle.std.proofs.Common.{◌≡◌, ℕ, ◌+◌, suc, Bool, true, false, cond, ◌||◌, List, [], ◌∷◌, ◌++◌, length, Option, Some, None, refl, ap, sym, subst, ◌∙◌, arith, add-zero}
 use Rattle.std.specs.Prelude.{bytes_eq, option_map, option_and_then, is_some, if◌then◌else◌}
 use Rattle.std.specs.Option.{option_or}
-use Rattle.std.specs.List.{list_any, find, position, position_from}
+use Rattle.std.specs.List.{list_any, find, position_from}
 use Rattle.std.specs.Global.{Vec}
-use Rattle.std.specs.BTreeMap.{BTreeMap, UpdatesBy, get_by, is_at}
+use Rattle.std.specs.BTreeMap.{BTreeMap, UpdatesBy}
 use Rattle.std.specs.Map.{KeepsOthers, IsKeyTest, AreApart, lookup}
-use Rattle.std.specs.Ordering.{nat_cmp, is_eq, eq_by_cmp}
+use Rattle.std.specs.Ordering.{nat_cmp, is_eq}
 use Rattle.std.specs.Cmp.{eq_by_cmp_equiv}
 use Rattle.std.specs.Cmp.Lexicographic.{slice_cmp, nat_list_cmp_total, nat_list_eq_equiv, bytes_decides}
 use Rattle.std.proofs.lemmas.Map.Text.{is_eq-slice_cmp}
@@ -57,12 +57,12 @@ added old new key app port same none h path =
     let here : place_at new key.items ≡ Some (place_of app port) = h.1 in
     let P : Bool → Type 0 = λ b. bytes_eq port.path path ≡ b → place_at new path ≡ option_or (place_at old path) (if b then Some (place_of app port) else None) in
     let cases : (b : Bool) → P b = λ b. elim b as P [
-      true ↦ λ y. let e = (bytes_decides port.path path).0 y in subst (λ q. place_at new q ≡ option_or (place_at old q) (Some (place_of app port))) e (rw (empty (place_at old port.path) none) (rw same at here))
+      | true ↦ λ y. let e = (bytes_decides port.path path).0 y in subst (λ q. place_at new q ≡ option_or (place_at old q) (Some (place_of app port))) e (rw (empty (place_at old port.path) none) (rw same at here))
       | false ↦ λ n. rw option_or-none (
-        other_entries _ _ _ _ h.3 _
+          other_entries _ _ _ _ h.3 _
           (λ x y. (eq_by_cmp_equiv nat_list_cmp_total).congr path x.items y.items)
           (λ k. apart_in_order key.items path k.items (ap (λ bs. bytes_eq bs path) same ∙ n))
-      )
+          )
     ] in
     cases (bytes_eq port.path path) refl
 
@@ -72,7 +72,7 @@ pub kept : (starts : BTreeMap (Vec ℕ) StartPlace) (app : ℕ) (port : StartPor
 kept starts app port some path =
     let P : Bool → Type 0 = λ b. bytes_eq port.path path ≡ b → place_at starts path ≡ option_or (place_at starts path) (if b then Some (place_of app port) else None) in
     let cases : (b : Bool) → P b = λ b. elim b as P [
-      true ↦ λ y. let e = (bytes_decides port.path path).0 y in full (place_at starts path) (Some (place_of app port)) (subst (λ q. is_some (place_at starts q) ≡ true) e some)
+      | true ↦ λ y. let e = (bytes_decides port.path path).0 y in full (place_at starts path) (Some (place_of app port)) (subst (λ q. is_some (place_at starts q) ≡ true) e some)
       | false ↦ λ n. sym (option_or-none (place_at starts path))
     ] in
     cases (bytes_eq port.path path) refl
@@ -90,7 +90,7 @@ pub index_more : (old new : BTreeMap (Vec ℕ) StartPlace) (ms : List Manifest) 
 index_more old new ms m n h e step = record {
   places = λ path.
       let f : 0 + length ms ≡ n = omega arith in
-      rw (place_from-last path 0 ms m, f, ← h.places path) (step path)
+      rw (place_from-last path 0 ms m, f, ← h.places path) (step path);
 }
 
 -- ---- what is found is the first application that has the port

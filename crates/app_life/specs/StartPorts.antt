@@ -1,5 +1,5 @@
 -- Start ports: the paths at which a connect starts an application.
-use Rattle.std.specs.Prelude.{ℕ, Bool, List, Option, Some, None, bytes_eq, option_map, option_and_then}
+use Rattle.std.specs.Prelude.{ℕ, Bool, List, Option, bytes_eq, option_map, option_and_then}
 use Rattle.std.specs.List.{list_any, find, position}
 use Rattle.kernel_values.specs.declared.flags.PortFlags.{PortFlags}
 use Rattle.kernel_values.specs.declared.scene.StartPort.{StartPort}

@@ -132,6 +132,30 @@ impl Apps {
         self.restarts(app) && self.start(app)
     }
 
+    /// How many applications there are.
+    pub fn len(&self) -> usize
+        ensures { result ≡ length self.now.apps }
+    {
+        self.lives.len()
+    }
+
+    /// How many threads there are.
+    pub fn threads(&self) -> usize
+        ensures { result ≡ length self.now.threads }
+    {
+        self.threads.len()
+    }
+
+    /// Whether the application runs.
+    pub fn runs(&self, app: AppId) -> bool
+        ensures { result ≡ app_runs (slice_get self.now.apps app.0) }
+    {
+        match self.lives.get(app.0 as usize) {
+            Some(life) => life.running,
+            None => false,
+        }
+    }
+
     /// The handle table of the application.
     pub fn table(&self, app: AppId) -> &Table
         requires { app.0 < length self.now.apps }

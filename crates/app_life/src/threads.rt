@@ -88,11 +88,7 @@ fn opening_status(manifest: &Manifest) -> ActorStatus
 }
 
 // A thread goes last for each script of the application, which has this number.
-fn add_threads(
-    threads: &mut Items<ThreadLife>,
-    number: u32,
-    app: &App,
-) -> Result<(), NoMemory>
+fn add_threads(threads: &mut Items<ThreadLife>, number: u32, app: &App) -> Result<(), NoMemory>
     ensures { OnOk result (threads.new ≡ threads.old ++ opening_threads (number, app.now)) }
 {
     let status = opening_status(&app.manifest);

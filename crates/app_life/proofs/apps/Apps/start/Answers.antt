@@ -13,13 +13,13 @@ returns-in_default-clause-may c =
 pub returns-in_default-clause-after : goal.returns-in_default-clause-after
 returns-in_default-clause-after c =
     let no : false ≡ may_start (slice_get c.args.self.now.apps c.args.app.0) =
-        rw (← c.self.view_is) (ap is_some (sym c.in_default.is ∙ c.next_start.ensures) ∙ sym (may_here _ _ c.args.app.0 c.self.invariant.same)) in
+    rw (← c.self.view_is) (ap is_some (sym c.in_default.is ∙ c.next_start.ensures) ∙ sym (may_here _ _ c.args.app.0 c.self.invariant.same)) in
     not_started_lives c.args.self.now c.args.app.0 (sym no)
 
 pub begin_life-requires-clause-empty : goal.begin_life-requires-clause-empty
 begin_life-requires-clause-empty c =
     let yes : true ≡ may_start (slice_get c.args.self.now.apps c.args.app.0) =
-        rw (← c.self.view_is) (ap is_some (sym c.in-Some.is ∙ c.next_start.ensures) ∙ sym (may_here _ _ c.args.app.0 c.self.invariant.same)) in
+    rw (← c.self.view_is) (ap is_some (sym c.in-Some.is ∙ c.next_start.ensures) ∙ sym (may_here _ _ c.args.app.0 c.self.invariant.same)) in
     let empty = rw (← c.self.view_is) at (c.requires (stands_here c.args.self.now.apps c.args.app.0 (sym yes))) in
     sym (table_here _ _ c.args.app.0 c.self.invariant.same) ∙ empty
 

@@ -11,8 +11,7 @@ unwrap-life-requires c =
 
 pub returns : goal.returns
 returns c =
-    let was = sym c.get_mut.ensures.value ∙ ap option_copied_mut c.unwrap-life.ensures in
-    (
+    let was = sym c.get_mut.ensures.value ∙ ap option_copied_mut c.unwrap-life.ensures in (
       (refl, λ w. rw (← c.self.view_is) (tabled_lives w _ _ _ _ _ was)),
       record { writes_back = tt; value = rw (← c.self.view_is) (app_table_here _ _ c.args.app.0 c.self.invariant.same ∙ rw was refl) },
     )
