@@ -1,0 +1,4 @@
+pub mod Changes
+pub mod Joined
+pub mod Within
+pub mod Ports

@@ -1,0 +1,6 @@
+pub mod Lists
+pub mod Lives
+pub mod StartPorts
+pub mod Inside
+pub mod Places
+pub mod Lending
