@@ -8,7 +8,6 @@ use Rattle.kernel_values.specs.Origin.{Origin}
 use Rattle.kernel_types.specs.Facts.{end_facts}
 use Rattle.kernel_types.specs.History.{Legal, next_state, state_after, step_entry}
 use Rattle.kernel_types.specs.Kernel.{Did}
-use Rattle.kernel_log.specs.Books.{Book}
 use Rattle.kernel_log.specs.Logs.{Log, Sound, facts_along}
 
 state_more : (s : State) (entries : List Entry) (entry : Entry) → state_after s (entries ++ entry ∷ []) ≡ next_state (state_after s entries) entry.event
@@ -44,17 +43,17 @@ sound_more log longer event entry s t made remade sound did o_is entries_are fac
     let o : State = log.origin.state in
     let es : List Entry = log.journal.entries in
     let next : step_entry (state_after o es) entry.event ≡ Some entry =
-        subst (λ (e : Event). step_entry (state_after o es) e ≡ Some entry) (sym did.event_is) (subst (λ (x : State). step_entry x event ≡ Some entry) sound.state_is did.entry_is) in
+    subst (λ (e : Event). step_entry (state_after o es) e ≡ Some entry) (sym did.event_is) (subst (λ (x : State). step_entry x event ≡ Some entry) sound.state_is did.entry_is) in
     let there : t ≡ next_state (state_after o es) entry.event =
-        did.state_is ∙ (ap (λ (x : State). next_state x event) sound.state_is ∙ ap (λ (e : Event). next_state (state_after o es) e) (sym did.event_is)) in
+    did.state_is ∙ (ap (λ (x : State). next_state x event) sound.state_is ∙ ap (λ (e : Event). next_state (state_after o es) e) (sym did.event_is)) in
     let facts : log.journal.facts ++ end_facts t ∷ [] ≡ facts_along o (es ++ entry ∷ []) =
-        (ap (λ (fs : List EndFacts). fs ++ end_facts t ∷ []) sound.facts_are ∙ ap (λ (x : State). facts_along o es ++ end_facts x ∷ []) there) ∙ sym (facts_more o es entry) in
+    (ap (λ (fs : List EndFacts). fs ++ end_facts t ∷ []) sound.facts_are ∙ ap (λ (x : State). facts_along o es ++ end_facts x ∷ []) there) ∙ sym (facts_more o es entry) in
     let count : remade ≡ log.origin.made + length (es ++ entry ∷ []) = grind (arith, length-append, did.made_is, sound.made_is) in
     sound_parts longer t remade log.origin (es ++ entry ∷ []) (log.journal.facts ++ end_facts t ∷ []) o_is entries_are facts_are
-        (legal_more o es entry sound.legal next) facts (there ∙ sym (state_more o es entry)) count
+    (legal_more o es entry sound.legal next) facts (there ∙ sym (state_more o es entry)) count
 
 pub sound_same : (log same : Log) (s t : State) (made remade : ℕ) → Sound log s made → t ≡ s → remade ≡ made
     → same.origin ≡ log.origin → same.journal.entries ≡ log.journal.entries → same.journal.facts ≡ log.journal.facts → Sound same t remade
 sound_same log same s t made remade sound state count o_is entries_are facts_are =
     sound_parts same t remade log.origin log.journal.entries log.journal.facts o_is entries_are facts_are
-        sound.legal sound.facts_are (state ∙ sound.state_is) (count ∙ sound.made_is)
+    sound.legal sound.facts_are (state ∙ sound.state_is) (count ∙ sound.made_is)

@@ -1,5 +1,5 @@
 -- The places of an actor's entries, one place further.
-use Rattle.std.proofs.Common.{◌≡◌, ℕ, suc, zero, ◌+◌, ◌<◌, Bool, true, false, List, [], ◌∷◌, ◌++◌, cond, ap, sym, refl, ◌∙◌, arith, Some, get_or, length, zero-add, add_assoc, append-nil}
+use Rattle.std.proofs.Common.{◌≡◌, ℕ, suc, zero, ◌+◌, ◌<◌, Bool, true, false, List, [], ◌∷◌, ◌++◌, cond, ap, sym, ◌∙◌, arith, get_or, length, zero-add, append-nil}
 use Rattle.std.specs.Prelude.{slice_get}
 use Rattle.std.specs.List.{filter, range_with_len}
 use Rattle.std.proofs.lemmas.List.Elements.{filter-append}
@@ -19,7 +19,7 @@ places_more entries actor n =
     let p : ℕ → Bool = λ k. is_own actor (slice_get entries k) in
     let one : n + 1 ≡ suc n = omega arith in
     let ranges : range_with_len 0 (n + 1) ≡ range_with_len 0 n ++ n ∷ [] =
-        (ap (λ m. range_with_len 0 m) one ∙ range_more 0 n) ∙ ap (λ k. range_with_len 0 n ++ k ∷ []) (zero-add n) in
+    (ap (λ m. range_with_len 0 m) one ∙ range_more 0 n) ∙ ap (λ k. range_with_len 0 n ++ k ∷ []) (zero-add n) in
     ap (λ ks. filter p ks) ranges ∙ filter-append p (range_with_len 0 n) (n ∷ [])
 
 own_at : (entries : List Entry) (actor n : ℕ) (entry : Entry) → n < length entries → entry ≡ get_or entries n entry

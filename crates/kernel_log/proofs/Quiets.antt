@@ -1,5 +1,5 @@
 -- In a state without actors no event is lawful.
-use Rattle.std.proofs.Common.{◌≡◌, ℕ, Bool, true, false, cond, Option, Some, None, refl, slice_get, [], List, length}
+use Rattle.std.proofs.Common.{◌≡◌, true, false, cond, Option, None, refl}
 use Rattle.kernel_values.specs.declared.entry.Event.{Event}
 use Rattle.kernel_values.specs.declared.entry.Event.TheVariants as event
 use Rattle.kernel_types.specs.Built.{is_built}

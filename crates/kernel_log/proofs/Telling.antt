@@ -1,10 +1,9 @@
 -- The numbers of an end's messages, one entry further; and a story told in its three lists.
-use Rattle.std.proofs.Common.{◌≡◌, ℕ, ◌+◌, ◌<◌, List, [], ◌∷◌, ◌++◌, take, ap, sym, refl, ◌∙◌, arith, Option, Some, None, get_or, length, append-nil}
-use Rattle.std.specs.List.{filter_map}
+use Rattle.std.proofs.Common.{◌≡◌, ℕ, ◌+◌, ◌<◌, List, [], ◌∷◌, ◌++◌, take, ap, sym, refl, ◌∙◌, Some, None, get_or, length, append-nil}
 use Rattle.std.proofs.lemmas.List.{take_more}
 use Rattle.std.proofs.lemmas.List.Elements.{filter_map-append}
 use Rattle.kernel_values.specs.declared.entry.Entry.{Entry}
-use Rattle.kernel_types.specs.Stories.{Story, story_of, number_at}
+use Rattle.kernel_types.specs.Stories.{story_of, number_at}
 use Rattle.kernel_log.specs.declared.stories.Move.{Move}
 use Rattle.kernel_log.specs.declared.stories.Move.TheVariants.{Send, Opening, Retirement}
 use Rattle.kernel_log.specs.Moves.{moved, numbers_of}

@@ -1,5 +1,5 @@
 -- A journal as its readers see it, and which places in it are an actor's.
-use Rattle.std.specs.Prelude.{ℕ, Bool, true, false, List, length, ◌==◌, Option, Some, None, slice_get}
+use Rattle.std.specs.Prelude.{ℕ, Bool, false, List, length, ◌==◌, Option, Some, None, slice_get}
 use Rattle.std.specs.List.{filter, range_with_len}
 use Rattle.kernel_values.specs.declared.entry.Event.{Event}
 use Rattle.kernel_values.specs.declared.entry.Event.TheVariants as event

@@ -6,8 +6,8 @@ ghost use Rattle.kernel_types.specs.History.{Legal};
 ghost use Rattle.kernel_log.specs.Logs.{facts_along, state_of, made_by, Wrote, Kept};
 
 use crate::journal::Journal;
-use kernel_types::{IpcKernel, StepCause, StepRefused};
 use kernel_types::values::{Answer, Event, NoMemory, Recorded};
+use kernel_types::{IpcKernel, StepCause, StepRefused};
 use std::alloc::Global;
 use std::marker::Model;
 use std::snapshot::Snapshot;

@@ -1,7 +1,7 @@
 use crate::*;
 use kernel_types::values::{
-    ActorId, ActorStatus, Answer, Call, EndFacts, EndSeq, Entry, Event, Events, ObjId, Recorded, Reply,
-    Seqs,
+    ActorId, ActorStatus, Answer, Call, EndFacts, EndSeq, Entry, Event, Events, ObjId, Recorded,
+    Reply, Seqs,
 };
 use kernel_types::{IpcKernel, StepCause, StepRefused};
 use std::test::Fail;
@@ -61,7 +61,15 @@ fn a_journal_keeps_entries_and_facts(rt: HostRuntime) -> Result<(), Fail> {
         facts(9),
     );
     assert!(rt; journal.len() == 3);
-    assert!(rt; matches!(journal.entry(1), Some(Entry { event: Event::Idle, .. })));
+    assert!(rt;
+        matches!(
+            journal.entry(1),
+            Some(Entry {
+                event: Event::Idle,
+                ..
+            })
+        )
+    );
     assert!(rt; journal.entry(3).is_none());
     assert!(rt; journal.facts(2) == Some(facts(9)));
     assert!(rt; journal.facts(3).is_none());
