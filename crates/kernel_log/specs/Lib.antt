@@ -1,0 +1,4 @@
+pub mod Books
+pub mod Logs
+pub mod Moves
+pub mod Quiet
