@@ -206,4 +206,14 @@ impl Queue {
     {
         self.size
     }
+
+    /// What holds of every queue: its messages are no more than its slots, and there are at most 32
+    /// slots of at most 4,096 bytes. It does nothing.
+    pub fn sound(&self)
+        ensures most { length self.now.messages ≤ self.now.slots }
+        ensures few { self.now.slots ≤ 32 }
+        ensures short { self.now.size ≤ 4096 }
+    {
+        let _ = &self.messages;
+    }
 }
