@@ -1,0 +1,10 @@
+//! Actors at their scripts: which call comes next, with the registers as the answers so far left them.
+#![tactic(auto)]
+
+mod actor;
+mod numbers;
+mod registers;
+#[cfg(test)]
+mod tests;
+
+pub use actor::Actor;
