@@ -2,7 +2,7 @@
 
 ghost use Rattle.std.specs.Prelude.{◌≡◌, IfOk, IsTrue, is_some, not};
 ghost use Rattle.kernel_types.specs.Scripts.{next_call, answered, is_exit};
-ghost use Rattle.script_actor.specs.Actors.{acting, answers_call};
+ghost use Rattle.script_actor.specs.Actors.{acting, answers_call, taken};
 
 use crate::numbers::call_of;
 use crate::registers::Registers;
@@ -83,9 +83,20 @@ impl Actor {
         self.position > self.script.as_slice().len()
     }
 
-    /// Goes on after the answer to the next call, which gives or refuses.
-    #[tactic(auto, unfolding(kernel_types::specs::Scripts::next_call, kernel_types::specs::Scripts::answered, kernel_types::specs::Scripts::registers_after))]
+    /// Goes on after the answer to the next call, which gives or refuses. Where no call is left, it changes
+    /// nothing.
     pub fn take(&mut self, answer: &Answer)
+        requires { IsTrue (answers_call answer.now) }
+        ensures { self.new ≡ record self.old { stand = taken self.old.script self.old.stand answer.now } }
+    {
+        if self.is_over() {
+            return;
+        }
+        self.go_on(answer);
+    }
+
+    #[tactic(auto, unfolding(kernel_types::specs::Scripts::next_call, kernel_types::specs::Scripts::answered, kernel_types::specs::Scripts::registers_after))]
+    fn go_on(&mut self, answer: &Answer)
         requires called { IsTrue (is_some (next_call self.old.script self.old.stand)) }
         requires answers { IsTrue (answers_call answer.now) }
         ensures { self.new ≡ record self.old { stand = answered self.old.script self.old.stand answer.now } }
