@@ -621,7 +621,7 @@ def run(folder, names, cases):
 
 def main():
     parser = argparse.ArgumentParser(description=__doc__, formatter_class=argparse.RawDescriptionHelpFormatter)
-    parser.add_argument("cases", nargs="+", help="case files, as ../shared/cases/messages.json")
+    parser.add_argument("cases", nargs="+", help="files of cases")
     parser.add_argument("--out", required=True, help="the folder of the scratch crate")
     parser.add_argument("--count", type=int, default=20, help="how many cases")
     parser.add_argument("--from", dest="start", type=int, default=0, help="the first case's number, smaller scenes first")
