@@ -101,13 +101,13 @@ call_at stand len None = (if stand.position == len then Some call.Finish else No
 unfoldable pub next_call : List Command → Stand → Option Call
 next_call script stand = call_at stand (length script) (slice_get script stand.position)
 
--- after the answer to it; after an exit, nothing comes
+-- after the answer to it; after an exit, nothing comes, and where no call is left an answer changes nothing
 
 abbrev pub stand_after : List Command → Stand → Answer → Option Command → Stand
 stand_after script stand answer (Some command) =
     (if is_exit command.call then record stand { position = length script + 1 }
     else record { position = stand.position + 1; registers = registers_after stand.registers command answer })
-stand_after script stand answer None = record stand { position = stand.position + 1 }
+stand_after script stand answer None = (if stand.position == length script then record stand { position = stand.position + 1 } else stand)
 
 unfoldable pub answered : List Command → Stand → Answer → Stand
 answered script stand answer = stand_after script stand answer (slice_get script stand.position)

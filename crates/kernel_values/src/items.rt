@@ -59,6 +59,13 @@ impl<T> Items<T> {
         }
     }
 
+    /// The vector's items as a list.
+    pub fn from_vec(items: Vec<T>) -> Self
+        ensures { result ≡ items.items }
+    {
+        Items { items }
+    }
+
     /// The allocator that the list was made with.
     pub fn allocator(&self) -> Global {
         *self.items.allocator()

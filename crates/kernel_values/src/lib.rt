@@ -15,6 +15,8 @@ pub mod reply;
 pub mod scene;
 pub mod script;
 pub mod state;
+#[cfg(test)]
+mod tests;
 
 pub use call::{Call, Timeout};
 pub use copied::Copied;

@@ -1,9 +1,9 @@
 -- An actor: its script, the number of its start, and where it stands.
-use Rattle.std.specs.Prelude.{ℕ, Bool, true, false, List, is_some, if◌then◌else◌}
+use Rattle.std.specs.Prelude.{ℕ, Bool, true, false, List}
 use Rattle.kernel_values.specs.declared.script.Command.{Command}
 use Rattle.kernel_values.specs.declared.reply.Answer.{Answer}
 use Rattle.kernel_values.specs.declared.reply.Answer.TheVariants as answer
-use Rattle.kernel_types.specs.Scripts.{Stand, script_begin, next_call, answered}
+use Rattle.kernel_types.specs.Scripts.{Stand, script_begin}
 
 pub record Acting : Type 0 where
   pub script : List Command
@@ -19,7 +19,3 @@ abbrev pub answers_call : Answer → Bool
 answers_call (answer.Gives reply) = true
 answers_call (answer.Refuses errno) = true
 answers_call _ = false
-
--- where it stands after an answer; where no call is open, an answer changes nothing, and no call follows either way
-abbrev pub taken : List Command → Stand → Answer → Stand
-taken script stand answer = (if is_some (next_call script stand) then answered script stand answer else stand)

@@ -2,7 +2,7 @@
 
 ghost use Rattle.std.specs.Prelude.{◌≡◌, IfOk, IsTrue, is_some, not};
 ghost use Rattle.kernel_types.specs.Scripts.{next_call, answered, is_exit};
-ghost use Rattle.script_actor.specs.Actors.{acting, answers_call, taken};
+ghost use Rattle.script_actor.specs.Actors.{acting, answers_call};
 
 use crate::numbers::call_of;
 use crate::registers::Registers;
@@ -85,9 +85,10 @@ impl Actor {
 
     /// Goes on after the answer to the next call, which gives or refuses. Where no call is left, it changes
     /// nothing.
+    #[tactic(auto, unfolding(kernel_types::specs::Scripts::next_call, kernel_types::specs::Scripts::answered))]
     pub fn take(&mut self, answer: &Answer)
         requires { IsTrue (answers_call answer.now) }
-        ensures { self.new ≡ record self.old { stand = taken self.old.script self.old.stand answer.now } }
+        ensures { self.new ≡ record self.old { stand = answered self.old.script self.old.stand answer.now } }
     {
         if self.is_over() {
             return;
