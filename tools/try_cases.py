@@ -1,7 +1,8 @@
 #!/usr/bin/env python3
 """Tries the kernel's definitions on worked scenes, before or beside its code.
 
-  try_cases.py CASES.json.. --out FOLDER [--count N] [--from K] [--only TEXT] [--largest BYTES] [--run]
+  try_cases.py CASES.json.. --out FOLDER [--count N] [--from K] [--only TEXT] [--largest BYTES]
+               [--world CRATE] [--run]
 
 A file of cases is a list of objects with the keys name, words, scene, status and output. FOLDER is
 a crate of a scratch clone that crates.txt lists over the crates of the definitions, as
@@ -13,7 +14,10 @@ printed turn is refused; where the case prints the form counts or summary, the l
 With --run it checks the crate, and prints for each case: agrees, differs
 (with the first difference), or limit (the checker stopped before it had an answer). Tried are scenes
 without clients, not in the form actors, smaller ones first; --largest leaves out cases that print
-more bytes. Every name of the definitions stands in the table below."""
+more bytes. With --world CRATE those with clients are tried instead, over the definitions of the whole
+state in a crate that paged_world.py wrote; crates.txt then lists it behind the others, as `tried:
+byteorder kernel_values kernel_types virtqueue tipc_proto normal_world paged_world`. Every name of the
+definitions stands in the table below."""
 import argparse, json, os, re, subprocess, sys, uuid
 
 # ---------------------------------------------------------------- names of the definitions
@@ -30,6 +34,9 @@ IMPORTS = [
     DECLARED + ".reply.Answer.TheVariants as answer",
     DECLARED + ".errno.Errno.TheVariants as errno",
     DECLARED + ".scene.Turn.TheVariants as turn",
+    DECLARED + ".reply.DeviceReply.TheVariants as device",
+    DECLARED + ".reply.IgnoreCause.TheVariants as ignored",
+    DECLARED + ".reply.BreakCause.TheVariants as broken",
 ]
 # What the shown entries stand on.
 SHOWN_IMPORTS = [
@@ -81,6 +88,12 @@ CALLS = {
     "waitany": ("WaitAny", ["timeout"]),
     "exit": ("Exit", ["number"]),
     "finish": ("Finish", []),
+    "nconnect": ("NsConnect", ["path"]),
+    "nsend": ("NsSend", ["handle", "bytes"]),
+    "nrecv": ("NsRecv", ["handle", "timeout"]),
+    "nclose": ("NsClose", ["handle"]),
+    "npoke": ("NsPoke", ["number", "bytes"]),
+    "nkick": ("NsKick", ["number", "number"]),
 }
 FLAG_BITS = {
     "port_flags": {"none": 0, "ta": 1, "ns": 2, "ta+ns": 3},
@@ -88,6 +101,15 @@ FLAG_BITS = {
     "mem_flags": {"r": 0, "rw": 1},
 }
 INVALID_HANDLE = 4_294_967_295
+# What the device says, by the words in front: the constructor; the numbers that follow are its arguments.
+DEVICE = {
+    "sent go_online": "SentOnline",
+    "sent conn_rsp": "SentRsp",
+    "sent disc_req": "SentDisc",
+    "sent data": "SentMessage",
+    "took disc_req": "TookDisc",
+    "took data": "TookMessage",
+}
 
 # ---------------------------------------------------------------- terms of antt
 
@@ -240,11 +262,19 @@ class App:
         ])
 
 
+class Client:
+    def __init__(self, name, script):
+        self.name, self.script = name, script
+
+    def term(self):
+        return record_term([("name", bytes_term(self.name.encode())), ("script", bracketed(["\n        " + c.term() for c in self.script]))])
+
+
 class Scene:
-    """A lawful scene without clients."""
+    """A lawful scene."""
 
     def __init__(self, text):
-        self.apps, self.queue, self.script, self.registers = [], 16, None, None
+        self.apps, self.clients, self.queue, self.script, self.registers = [], [], 16, None, None
         self.turns, self.has_turns = [], False
         lines = text.split("\n")
         k = 0
@@ -271,6 +301,9 @@ class Scene:
         elif words[0] == "thread":
             self.script, self.registers = [], Registers()
             self.apps[-1].threads.append(self.script)
+        elif words[0] == "client":
+            self.script, self.registers = [], Registers()
+            self.clients.append(Client(words[1], self.script))
         elif words[0] == "repeat":
             end = next(j for j in range(k + 1, len(lines)) if lines[j].split() == ["end"])
             body = [self.command(l) for l in lines[k + 1:end]]
@@ -288,11 +321,13 @@ class Scene:
 
     def actors(self):
         """The names of the actors as reports print them, in order."""
-        return ["%s.%d" % (app.name, t) for app in self.apps for t in range(len(app.threads))]
+        threads = ["%s.%d" % (app.name, t) for app in self.apps for t in range(len(app.threads))]
+        return threads + [client.name for client in self.clients]
 
     def term(self):
         apps = ["\n    " + app.term() for app in self.apps]
-        return record_term([("apps", listed(apps)), ("clients", "[]"), ("queue", self.queue), ("turns", listed(self.turns))])
+        clients = ["\n    " + client.term() for client in self.clients]
+        return record_term([("apps", listed(apps)), ("clients", listed(clients)), ("queue", self.queue), ("turns", listed(self.turns))])
 
 
 # ---------------------------------------------------------------- the report
@@ -315,10 +350,24 @@ def reply_term(words):
         return "(reply.Bytes %s %s)" % (bytes_term(bytes_of(rest[0])), bracketed(rest[2:]))
     if first == "event":
         return "(reply.Event %s %s %s)" % (rest[0], flags_term(int(rest[1])), rest[2])
+    if first == "conn":
+        return "(reply.Conn %d)" % int(rest[0])
     return None
 
 
-def errno_name(printed):
+def device_term(words):
+    """The term of what the device says."""
+    if words[0] == "ignored":
+        return "(device.Ignored ignored.%s)" % camel(words[1])
+    if words[0] == "broke":
+        return "(device.Broke %s broken.%s %s)" % (words[1], camel(words[2]), words[3])
+    if words[:2] == ["took", "conn_req"]:
+        return "(device.TookReq %s %s)" % (words[2], bytes_term(words[3].encode("latin-1")))
+    return "(%s)" % " ".join(["device." + DEVICE[" ".join(words[:2])]] + words[2:])
+
+
+def camel(printed):
+    """A printed word as a constructor's name."""
     return "".join(part.capitalize() for part in printed.split("_"))
 
 
@@ -327,11 +376,13 @@ def answer_term(text):
     if words[0] == "waits":
         return "answer.Waits"
     if words[0] == "refused":
-        return "(answer.Refuses errno.%s)" % errno_name(words[1])
+        return "(answer.Refuses errno.%s)" % camel(words[1])
     if words[0] == "clock":
         return "(answer.Clock %d)" % int(words[1])
     if words[0] == "cancel":
         return "answer.CancelAll"
+    if words[0] in ("sent", "took", "ignored", "broke"):
+        return "(answer.Device %s)" % device_term(words)
     reply = reply_term(words)
     if reply is None:
         raise ValueError("no answer: %s" % text)
@@ -341,8 +392,8 @@ def answer_term(text):
 def entry_term(actors, line):
     """One printed entry as a shown entry."""
     _, who, rest = line.split(" ", 2)
-    if who == "idle":
-        return "Idled %s" % answer_term(rest.split("-> ", 1)[1])
+    if rest.startswith("-> "):
+        return "%s %s" % ("Idled" if who == "idle" else "Moved", answer_term(rest[3:]))
     call, answer = rest.rsplit(" -> ", 1)
     actor = actors.index(who)
     if call == "resume":
@@ -527,9 +578,9 @@ def case_file(crate, case):
         unfolding="unfolding %s\n" % " ".join(UNFOLDING) if UNFOLDING else "")
 
 
-def is_wanted(case):
-    """Whether the case prints a run in one of three forms, or refuses a turn, of a scene without clients."""
-    if "client" in {line.split()[0] for line in case["scene"].split("\n") if line.split()}:
+def is_wanted(case, clients):
+    """Whether the case prints a run in one of three forms, or refuses a turn, of a scene with clients or without."""
+    if ("client" in {line.split()[0] for line in case["scene"].split("\n") if line.split()}) != clients:
         return False
     command = command_of(case["words"])
     if (command, case["status"]) == (["replay"], 7):
@@ -538,7 +589,7 @@ def is_wanted(case):
 
 
 def wanted_cases(arguments):
-    cases = [c for path in arguments.cases for c in json.load(open(path)) if is_wanted(c)]
+    cases = [c for path in arguments.cases for c in json.load(open(path)) if is_wanted(c, arguments.world is not None)]
     seen, distinct = set(), []
     for case in sorted(cases, key=lambda c: (len(c["output"]), len(c["scene"]))):
         key = (case["scene"], "replay" in case["words"], case["status"] or form_of(case["words"]))
@@ -547,6 +598,21 @@ def wanted_cases(arguments):
             distinct.append(case)
     named = [c for c in distinct if arguments.only in c["name"] and len(c["output"]) <= arguments.largest]
     return named[arguments.start:][:arguments.count]
+
+
+def over_world(crate):
+    """Leads what stands on the whole state to the crate's definitions."""
+    def led(line):
+        line = line.replace("Rattle.kernel_values.specs.declared.state.State", "Rattle.normal_world.specs.declared.world.State")
+        for module in ("Opening", "Turns", "Serial", "Facts", "Step"):
+            line = line.replace("Rattle.kernel_types.specs.%s." % module, "Rattle.%s.specs.%s." % (crate, module))
+        return line.replace("{full_step}", "{whole_step}")
+
+    global SHOWN
+    SHOWN = SHOWN.replace("full_step", "whole_step")
+    SHOWN_IMPORTS[:], DEFINITIONS[:] = map(led, SHOWN_IMPORTS), map(led, DEFINITIONS)
+    UNFOLDING.append("world_on_literals")
+    UNFOLDING_IMPORTS.append("Rattle.%s.specs.OnLiterals.{world_on_literals}" % crate)
 
 
 def write(path, text):
@@ -627,8 +693,11 @@ def main():
     parser.add_argument("--from", dest="start", type=int, default=0, help="the first case's number, smaller scenes first")
     parser.add_argument("--largest", type=int, default=6000, help="the most bytes that a case may print")
     parser.add_argument("--only", default="", help="cases whose name contains this text")
+    parser.add_argument("--world", help="a crate with the definitions of the whole state")
     parser.add_argument("--run", action="store_true", help="check the crate and print what holds")
     arguments = parser.parse_args()
+    if arguments.world:
+        over_world(arguments.world)
     cases = wanted_cases(arguments)
     if not cases:
         sys.exit("no such case")

@@ -1,0 +1,3 @@
+mod DeviceTakesFrames
+mod DriverReadsFrames
+mod FramesByteForByte

@@ -1,0 +1,12 @@
+pub mod Bridge
+pub mod Carried
+pub mod Clients
+pub mod Device
+pub mod Drains
+pub mod Errors
+pub mod GuestMemory
+pub mod History
+pub mod OnLiterals
+pub mod Opening
+pub mod Sending
+pub mod Step
