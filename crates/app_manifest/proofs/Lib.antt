@@ -1,0 +1,2 @@
+pub mod PortsRead
+pub mod Lawful
