@@ -1,0 +1,4 @@
+pub mod Parts
+pub mod Results
+pub mod Quiet
+pub mod Turns

@@ -1,0 +1,11 @@
+pub mod Kinds
+pub mod Gives
+pub mod Texts
+pub mod Numbers
+pub mod Payloads
+pub mod Registers
+pub mod LineWords
+pub mod Calls
+pub mod Reading
+pub mod Whole
+pub mod Lawful

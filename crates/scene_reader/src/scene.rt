@@ -1,0 +1,361 @@
+//! The scene that a text spells, or its first fault.
+
+ghost use Rattle.std.specs.Prelude.{◌≡◌, ◌≤◌, IfOk, IsTrue, Err, [], length, map};
+ghost use Rattle.std.specs.List.{list_all, list_any};
+ghost use Rattle.kernel_values.specs.SceneLaw.{IsLawfulScene};
+ghost use Rattle.scene_reader.specs.Gives.{Gives};
+ghost use Rattle.scene_reader.specs.Texts.{is_text_byte, lines_of};
+ghost use Rattle.scene_reader.specs.Lawful.{IsLawfulReading};
+ghost use Rattle.scene_reader.specs.Reading.{word_act, first_word, is_header, words_act, line_act};
+ghost use Rattle.scene_reader.specs.Whole.{opening, open_line, is_end, closes, fault_in, ended, lines_act, scene_of, IsRefusal, IsScene};
+
+use crate::app_lines::{app_act, apps_with};
+use crate::fault::LineRefused::{self, Fault};
+use crate::fault::SceneKind::{BadByte, NoHeader, OpenRepeat, OutOfPlace, TooMany, UnknownWord};
+use crate::fault::{SceneFault, SceneKind, SceneRefused};
+use crate::line_words::line_word;
+use crate::reading::{Place, Reading, Registered, Used};
+use crate::repeat_lines::{call_act, end_act, repeat_act, thread_act};
+use crate::texts::{first_line, is_skipped, is_text, words_of};
+use crate::turn_lines::{turns_act, with_turns};
+use crate::words::LineWord;
+use kernel_values::{AppList, ClientList, Items, NoMemory, Scene, TurnList};
+use std::alloc::Global;
+
+// A line whose first word begins a line.
+#[tactic(auto, unfolding(crate::specs::Reading::word_act))]
+fn word_act(
+    alloc: Global,
+    reading: Reading,
+    at: u32,
+    text: &[u8],
+    word: LineWord,
+    words: &[&[u8]],
+) -> Result<Reading, LineRefused>
+    requires { IsTrue (list_all is_text_byte text.now) }
+    ensures exact { Gives (λ next. next) result (word_act reading at text.now word (map (λ word. word.now) words.now)) }
+    ensures kept { IsLawfulReading reading → IfOk result IsLawfulReading }
+{
+    let Reading {
+        place,
+        before,
+        used,
+    } = reading;
+    match word {
+        LineWord::Scene => Err(Fault(OutOfPlace)),
+        LineWord::App => {
+            let (before, place) = app_act(alloc, before, place, text, words)?;
+            Ok(Reading {
+                place,
+                before,
+                used,
+            })
+        }
+        LineWord::Turns => {
+            let (before, place) = turns_act(alloc, before, place, words)?;
+            Ok(Reading {
+                place,
+                before,
+                used,
+            })
+        }
+        LineWord::Thread => {
+            let place = thread_act(alloc, place, words)?;
+            Ok(Reading {
+                place,
+                before,
+                used,
+            })
+        }
+        LineWord::Repeat => {
+            let place = repeat_act(alloc, at, place, words)?;
+            Ok(Reading {
+                place,
+                before,
+                used,
+            })
+        }
+        LineWord::End => {
+            let (used, place) = end_act(used, place, words)?;
+            Ok(Reading {
+                place,
+                before,
+                used,
+            })
+        }
+        LineWord::Call(word) => {
+            let (used, place) = call_act(alloc, used, place, word, words)?;
+            Ok(Reading {
+                place,
+                before,
+                used,
+            })
+        }
+    }
+}
+
+// `scene 1`
+fn is_header(words: &[&[u8]]) -> bool
+    ensures { result ≡ is_header (map (λ word. word.now) words.now) }
+{
+    match words {
+        [first, second] => *first == b"scene".as_slice() && *second == b"1".as_slice(),
+        _ => false,
+    }
+}
+
+// A line between the header and the turns.
+#[tactic(auto, unfolding(crate::specs::Reading::first_word))]
+fn first_word(
+    alloc: Global,
+    reading: Reading,
+    at: u32,
+    text: &[u8],
+    words: &[&[u8]],
+) -> Result<Reading, LineRefused>
+    requires { IsTrue (list_all is_text_byte text.now) }
+    ensures exact { Gives (λ next. next) result (first_word reading at text.now (map (λ word. word.now) words.now)) }
+    ensures kept { IsLawfulReading reading → IfOk result IsLawfulReading }
+{
+    let [first, rest @ ..] = words else {
+        return Ok(reading);
+    };
+    let Some(word) = line_word(first) else {
+        return Err(Fault(UnknownWord));
+    };
+    word_act(alloc, reading, at, text, word, rest)
+}
+
+// A line that is not skipped.
+#[tactic(auto, unfolding(crate::specs::Reading::words_act))]
+fn words_act(
+    alloc: Global,
+    reading: Reading,
+    at: u32,
+    text: &[u8],
+    words: &[&[u8]],
+) -> Result<Reading, LineRefused>
+    requires { IsTrue (list_all is_text_byte text.now) }
+    ensures exact { Gives (λ next. next) result (words_act reading reading.place at text.now (map (λ word. word.now) words.now)) }
+    ensures kept { IsLawfulReading reading → IfOk result IsLawfulReading }
+{
+    let Reading {
+        place,
+        before,
+        used,
+    } = reading;
+    match place {
+        Place::Start => {
+            if !is_header(words) {
+                return Err(Fault(NoHeader));
+            }
+            Ok(Reading {
+                place: Place::Outside,
+                before,
+                used,
+            })
+        }
+        Place::Turns(turns) => {
+            let mut turns = turns;
+            with_turns(&mut turns, words)?;
+            Ok(Reading {
+                place: Place::Turns(turns),
+                before,
+                used,
+            })
+        }
+        place => first_word(
+            alloc,
+            Reading {
+                place,
+                before,
+                used,
+            },
+            at,
+            text,
+            words,
+        ),
+    }
+}
+
+#[tactic(auto, unfolding(crate::specs::Reading::line_act))]
+fn line_act(alloc: Global, reading: Reading, at: u32, text: &[u8]) -> Result<Reading, LineRefused>
+    ensures exact { Gives (λ next. next) result (line_act reading at text.now) }
+    ensures kept { IsLawfulReading reading → IfOk result IsLawfulReading }
+{
+    let words = words_of(alloc, text)?;
+    if is_skipped(&words) {
+        return Ok(reading);
+    }
+    if !is_text(text) {
+        return Err(Fault(BadByte));
+    }
+    words_act(alloc, reading, at, text, &words)
+}
+
+fn opening(alloc: Global) -> Reading
+    ensures value { result ≡ opening }
+    ensures lawful { IsLawfulReading result }
+{
+    Reading {
+        place: Place::Start,
+        before: Registered {
+            apps: AppList::new(alloc),
+            names: Items::new(alloc),
+            ports: Items::new(alloc),
+        },
+        used: Used {
+            commands: 0,
+            payload: 0,
+        },
+    }
+}
+
+fn open_line(place: &Place) -> Option<u32>
+    ensures { result ≡ open_line place.now }
+{
+    match place {
+        Place::Repeat(_, repeat) => Some(repeat.line),
+        _ => None,
+    }
+}
+
+fn is_end(words: &[&[u8]]) -> bool
+    ensures { result ≡ is_end (map (λ word. word.now) words.now) }
+{
+    match words {
+        [word] => *word == b"end".as_slice(),
+        _ => false,
+    }
+}
+
+// Whether the line closes a repeat.
+#[tactic(auto, unfolding(crate::specs::Whole::closes))]
+fn closes(alloc: Global, line: &[u8]) -> Result<bool, NoMemory>
+    ensures { IfOk result (λ yes. yes ≡ closes line.now) }
+{
+    if !is_text(line) {
+        return Ok(false);
+    }
+    let words = words_of(alloc, line)?;
+    Ok(is_end(&words))
+}
+
+// Whether a line of these closes a repeat.
+fn is_closed_in(alloc: Global, bytes: &[u8]) -> Result<bool, NoMemory>
+    ensures { IfOk result (λ yes. yes ≡ list_any closes (lines_of bytes.now)) }
+{
+    let mut rest = bytes;
+    while rest.len() > 0 {
+        let (line, after) = first_line(rest);
+        if closes(alloc, line)? {
+            return Ok(true);
+        }
+        rest = after;
+    }
+    Ok(false)
+}
+
+// The fault, unless it stands in a repeat that no later line closes.
+#[tactic(auto, unfolding(crate::specs::Whole::fault_in))]
+fn fault_in(
+    alloc: Global,
+    opened: Option<u32>,
+    line: u32,
+    kind: SceneKind,
+    rest: &[u8],
+) -> Result<SceneFault, NoMemory>
+    ensures { IfOk result (λ fault. fault ≡ fault_in opened line kind (lines_of rest.now)) }
+{
+    let Some(opened) = opened else {
+        return Ok(SceneFault { kind, line });
+    };
+    if kind == TooMany || is_closed_in(alloc, rest)? {
+        return Ok(SceneFault { kind, line });
+    }
+    Ok(SceneFault {
+        kind: OpenRepeat,
+        line: opened,
+    })
+}
+
+// The refusal for a line with a fault.
+fn refusal(
+    alloc: Global,
+    opened: Option<u32>,
+    line: u32,
+    kind: SceneKind,
+    rest: &[u8],
+) -> SceneRefused
+    ensures { IsRefusal result (Err (fault_in opened line kind (lines_of rest.now))) }
+{
+    match fault_in(alloc, opened, line, kind, rest) {
+        Ok(fault) => SceneRefused::Fault(fault),
+        Err(_) => SceneRefused::NoMemory,
+    }
+}
+
+// A scene without clients.
+fn scene_with(alloc: Global, apps: AppList, turns: TurnList) -> Scene
+    requires { IsLawfulScene (record { apps = apps; clients = []; queue = 16; turns = turns }) }
+    ensures { result ≡ record { apps = apps; clients = []; queue = 16; turns = turns } }
+{
+    Scene {
+        apps,
+        clients: ClientList::new(alloc),
+        queue: 16,
+        turns,
+    }
+}
+
+// After the last line.
+#[tactic(auto, unfolding(crate::specs::Whole::ended))]
+fn ended(alloc: Global, reading: Reading) -> Result<Scene, SceneRefused>
+    requires { IsLawfulReading reading }
+    ensures { IsScene result (ended reading reading.place) }
+{
+    let Reading { place, before, .. } = reading;
+    let Registered { apps, .. } = before;
+    match place {
+        Place::Start => Err(SceneRefused::Fault(SceneFault {
+            kind: NoHeader,
+            line: 0,
+        })),
+        Place::Repeat(_app, repeat) => Err(SceneRefused::Fault(SceneFault {
+            kind: OpenRepeat,
+            line: repeat.line,
+        })),
+        Place::Outside => Ok(scene_with(alloc, apps, TurnList::new(alloc))),
+        Place::Turns(turns) => Ok(scene_with(alloc, apps, turns)),
+        Place::App(app) => {
+            let Ok(apps) = apps_with(apps, Place::App(app)) else {
+                return Err(SceneRefused::NoMemory);
+            };
+            Ok(scene_with(alloc, apps, TurnList::new(alloc)))
+        }
+    }
+}
+
+/// The scene that the text spells, or its first fault: of the faulty lines the first, and on it the
+/// first kind in the order of [`SceneKind`]. The work is linear in the text and in what the scene may
+/// hold at most.
+pub fn read_scene(alloc: Global, bytes: &[u8]) -> Result<Scene, SceneRefused>
+    requires { length bytes.now ≤ 4194304 }
+    ensures { IsScene result (scene_of bytes.now) }
+{
+    let mut reading = opening(alloc);
+    let mut rest = bytes;
+    let mut at = 1;
+    while rest.len() > 0 {
+        let (line, after) = first_line(rest);
+        let opened = open_line(&reading.place);
+        match line_act(alloc, reading, at, line) {
+            Ok(next) => reading = next,
+            Err(LineRefused::NoMemory) => return Err(SceneRefused::NoMemory),
+            Err(Fault(kind)) => return Err(refusal(alloc, opened, at, kind, after)),
+        }
+        rest = after;
+        at += 1;
+    }
+    ended(alloc, reading)
+}
