@@ -1,0 +1,158 @@
+-- What a call of a thread comes to, where what is to hold is kept by a quiet change, by the beginning of its wait and by
+-- a start of an application.
+use Rattle.std.proofs.Common.{◌≡◌, ℕ, Bool, true, false, cond, List, Option, Some, None, refl, ◌∙◌, subst}
+use Rattle.std.specs.Prelude.{slice_get, not}
+use Rattle.std.specs.List.{list_any}
+use Rattle.std.specs.Option.{is_some}
+use Rattle.kernel_values.specs.Words.{is_path}
+use Rattle.kernel_values.specs.declared.call.Call.{Call}
+use Rattle.kernel_values.specs.declared.call.Call.TheVariants as call
+use Rattle.kernel_values.specs.declared.call.Timeout.{Timeout}
+use Rattle.kernel_values.specs.declared.flags.ConnectFlags.{ConnectFlags}
+use Rattle.kernel_values.specs.declared.reply.Answer.{Answer}
+use Rattle.kernel_values.specs.declared.reply.Answer.TheVariants as answer
+use Rattle.kernel_values.specs.declared.state.Application.{Application}
+use Rattle.kernel_values.specs.declared.state.Connector.TheVariants as connector
+use Rattle.kernel_values.specs.declared.state.CoreState.{CoreState}
+use Rattle.kernel_values.specs.declared.state.TableEntry.{TableEntry}
+use Rattle.kernel_values.specs.declared.state.Wait.{Wait}
+use Rattle.kernel_values.specs.declared.state.WaitOn.{WaitOn}
+use Rattle.kernel_values.specs.declared.state.WaitOn.TheVariants as wait_on
+use Rattle.kernel_types.specs.Applications.{started}
+use Rattle.kernel_types.specs.Connects.{Way, to_port, to_start, to_nothing, connect, connect_by, connected, started_unless_running, and_started, way_of, waits_for_port, is_asynchronous, pending_pair, waiting_client}
+use Rattle.kernel_types.specs.Objects.{memory_of}
+use Rattle.kernel_types.specs.Outcome.{Outcome}
+use Rattle.kernel_types.specs.Ports.{admits}
+use Rattle.kernel_types.specs.Reports.{Reported, report_of}
+use Rattle.kernel_types.specs.Step.{act}
+use Rattle.kernel_types.specs.Tables.{table_of, entry_at, is_full, install, free_handle}
+use Rattle.kernel_types.specs.Threads.{with_activity, waiting_activity, new_wait, waits_on}
+use Rattle.kernel_types.specs.Waits.{wait, wait_entry, wait_any, wait_or_report, is_zero_timeout, can_have_events, deadline_of}
+use Rattle.runners.proofs.Quiet.{Quiet, starts_stay, quiet_port_create, quiet_accept, quiet_send, quiet_get, quiet_read, quiet_put, quiet_set_cookie, quiet_close, quiet_dup, quiet_set_create, quiet_set_add, quiet_set_del, quiet_set_mod, quiet_mem_create, quiet_mem_read, quiet_mem_write}
+use Rattle.run_laws.proofs.Quieting.{core_reported, quiet_report}
+
+-- a call that ends its thread
+abbrev pub is_ending : Call → Bool
+is_ending (call.Exit code) = true
+is_ending call.Finish = true
+is_ending other = false
+
+-- what is to hold of an answer and the state that comes with it, after a call of the thread `k` in the state `c`
+pub record Upheld (c : CoreState) (k : ℕ) : Type 1 where
+  pub holds : Answer → CoreState → Type 0
+  pub quiet : (given : Answer) (d : CoreState) → Quiet c d → holds given d
+  pub waits : (d : CoreState) (w : Wait) → Quiet c d → holds answer.Waits (with_activity (waiting_activity w) k d)
+  pub begun : (given : Answer) (d : CoreState) (app : ℕ) → holds given d → holds given (started app d)
+
+same : (c : CoreState) → Quiet c c
+same c = record { threads = refl; starts = refl }
+
+module _ (c : CoreState) (k : ℕ) (U : Upheld c k) where
+  record Upholds (outcome : Outcome) : Type 0 where
+    upheld : U.holds outcome.answer outcome.core
+
+  by_quiet : (o : Outcome) → Quiet c o.core → Upholds o
+  by_quiet o q = record { upheld = U.quiet o.answer o.core q }
+
+  by_wait : (d : CoreState) (on : WaitOn) (deadline : Option ℕ) → Quiet c d → Upholds (waits_on k on deadline d)
+  by_wait d on deadline q = record { upheld = U.waits d (new_wait on deadline) q }
+
+  by_if : (b : Bool) (one other : Outcome) → Upholds one → Upholds other → Upholds (cond b one other)
+  by_if true one other p q = p
+  by_if false one other p q = q
+
+  -- connect
+
+  installed : (d : CoreState) (app object : ℕ) → Quiet c d → Quiet c (install app object d)
+  installed d app object q = record { threads = q.threads; starts = starts_stay _ (λ a. refl) d.apps app ∙ q.starts }
+
+  up_connected : (app : ℕ) (flags : ConnectFlags) (made : CoreState) → Quiet c made → Upholds (connected c k app flags made)
+  up_connected app flags made q =
+      by_if (is_asynchronous flags) _ _ (by_quiet _ (installed made app c.next q)) (by_wait (install app c.next made) (wait_on.Connect c.next (free_handle (table_of c app))) None (installed made app c.next q))
+
+  served : (given : Answer) (place : ℕ) (app : Option Application) (d : CoreState) → U.holds given d → U.holds given (started_unless_running place app d)
+  served given place None d u = u
+  served given place (Some app) d u = elim app.running as (λ b. U.holds given (cond b d (started place d))) [ true ↦ u | false ↦ U.begun given d place u ]
+
+  up_and_started : (place : ℕ) (o : Outcome) → Upholds o → Upholds (and_started place o)
+  up_and_started place o u = record { upheld = served o.answer place (slice_get o.core.apps place) o.core u.upheld }
+
+  up_connect_by : (way : Way) (app : ℕ) (path : List ℕ) (flags : ConnectFlags) → Upholds (connect_by way c k app path flags)
+  up_connect_by (to_port id port) app path flags =
+      by_if (not (admits port.flags (connector.App app))) _ _ (by_quiet _ (same c)) (by_if (is_full (table_of c app)) _ _ (by_quiet _ (same c))
+      (up_connected app flags (pending_pair (connector.App app) id port c) (record { threads = refl; starts = refl })))
+  up_connect_by (to_start place start) app path flags =
+      by_if (not (admits start (connector.App app))) _ _ (by_quiet _ (same c)) (by_if (is_full (table_of c app)) _ _ (by_quiet _ (same c))
+      (up_and_started place _ (up_connected app flags (waiting_client (connector.App app) path c) (record { threads = refl; starts = refl }))))
+  up_connect_by to_nothing app path flags =
+      by_if (not (waits_for_port flags)) _ _ (by_quiet _ (same c)) (by_if (is_full (table_of c app)) _ _ (by_quiet _ (same c))
+      (up_connected app flags (waiting_client (connector.App app) path c) (record { threads = refl; starts = refl })))
+
+  up_connect : (app : ℕ) (path : List ℕ) (flags : ConnectFlags) → Upholds (connect c k app path flags)
+  unfolding connect
+  up_connect app path flags = by_if (not (is_path path)) _ _ (by_quiet _ (same c)) (up_connect_by (way_of c path) app path flags)
+
+  -- wait and waitany
+
+  up_or_report : (on : WaitOn) (timeout : Timeout) (reported : Option Reported) → Quiet c (core_reported reported c) → Upholds (wait_or_report c k on timeout reported)
+  unfolding core_reported
+  up_or_report on timeout (Some reported) q = by_quiet _ q
+  up_or_report on timeout None q = by_if (is_zero_timeout timeout) _ _ (by_quiet _ (same c)) (by_wait c on (deadline_of c.clock timeout) (same c))
+
+  up_wait_entry : (app : ℕ) (timeout : Timeout) (entry : Option TableEntry) → Upholds (wait_entry c k app timeout entry)
+  up_wait_entry app timeout None = by_quiet _ (same c)
+  up_wait_entry app timeout (Some entry) =
+      let on : WaitOn = wait_on.Object entry.object entry.handle entry.cookie in
+      by_if (is_some (memory_of c.objects entry.object)) _ _ (by_quiet _ (same c)) (up_or_report on timeout (report_of c app on) (quiet_report c app on))
+
+  up_wait : (app handle : ℕ) (timeout : Timeout) → Upholds (wait c k app handle timeout)
+  unfolding wait
+  up_wait app handle timeout = up_wait_entry app timeout (entry_at (table_of c app) handle)
+
+  up_wait_any : (app : ℕ) (timeout : Timeout) → Upholds (wait_any c k app timeout)
+  unfolding wait_any
+  up_wait_any app timeout = by_if (list_any (can_have_events c.objects) (table_of c app)) _ _
+      (up_or_report wait_on.Any timeout (report_of c app wait_on.Any) (quiet_report c app wait_on.Any)) (by_quiet _ (same c))
+
+  -- every call that does not end the thread
+
+  abbrev UpholdsIf : Option Outcome → Type 0
+  UpholdsIf None = Unit {0}
+  UpholdsIf (Some outcome) = Upholds outcome
+
+  up_act : (app : ℕ) (asked : Call) → is_ending asked ≡ false → UpholdsIf (act c k app asked)
+  unfolding act
+  up_act app (call.PortCreate path bufs size flags) goes = by_quiet _ (quiet_port_create c app path bufs size flags)
+  up_act app (call.Connect path flags) goes = up_connect app path flags
+  up_act app (call.Accept port) goes = by_quiet _ (quiet_accept c app port)
+  up_act app (call.Send chan bytes parts) goes = by_quiet _ (quiet_send c app chan bytes parts)
+  up_act app (call.Get chan) goes = by_quiet _ (quiet_get c app chan)
+  up_act app (call.Read chan id offset room parts) goes = by_quiet _ (quiet_read c app chan id offset room parts)
+  up_act app (call.Put chan id) goes = by_quiet _ (quiet_put c app chan id)
+  up_act app (call.SetCookie handle cookie) goes = by_quiet _ (quiet_set_cookie c app handle cookie)
+  up_act app (call.Close handle) goes = by_quiet _ (quiet_close c app handle)
+  up_act app (call.Dup handle) goes = by_quiet _ (quiet_dup c app handle)
+  up_act app call.SetCreate goes = by_quiet _ (quiet_set_create c app)
+  up_act app (call.SetAdd set handle mask cookie) goes = by_quiet _ (quiet_set_add c app set handle mask cookie)
+  up_act app (call.SetDel set label) goes = by_quiet _ (quiet_set_del c app set label)
+  up_act app (call.SetMod set label mask cookie) goes = by_quiet _ (quiet_set_mod c app set label mask cookie)
+  up_act app (call.MemCreate size flags) goes = by_quiet _ (quiet_mem_create c app size flags)
+  up_act app (call.MemRead handle offset len) goes = by_quiet _ (quiet_mem_read c app handle offset len)
+  up_act app (call.MemWrite handle offset bytes) goes = by_quiet _ (quiet_mem_write c app handle offset bytes)
+  up_act app (call.Wait handle timeout) goes = up_wait app handle timeout
+  up_act app (call.WaitAny timeout) goes = up_wait_any app timeout
+  up_act app (call.Exit code) goes = absurd (cc)
+  up_act app call.Finish goes = absurd (cc)
+  up_act app (call.NsConnect path) goes = tt
+  up_act app (call.NsSend conn bytes) goes = tt
+  up_act app (call.NsRecv conn timeout) goes = tt
+  up_act app (call.NsClose conn) goes = tt
+  up_act app (call.NsPoke addr bytes) goes = tt
+  up_act app (call.NsKick queue head) goes = tt
+
+  upheld_by : (o : Option Outcome) (outcome : Outcome) → o ≡ Some outcome → UpholdsIf o → U.holds outcome.answer outcome.core
+  upheld_by None outcome is u = absurd (cc)
+  upheld_by (Some found) outcome is u = subst (λ (x : Outcome). U.holds x.answer x.core) (let e : found ≡ outcome = cc in e) u.upheld
+
+  pub act_upholds : (app : ℕ) (asked : Call) (outcome : Outcome) → is_ending asked ≡ false → act c k app asked ≡ Some outcome → U.holds outcome.answer outcome.core
+  act_upholds app asked outcome goes is = upheld_by (act c k app asked) outcome is (up_act app asked goes)

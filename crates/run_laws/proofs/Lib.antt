@@ -1,0 +1,9 @@
+pub mod Quieting
+pub mod Places
+pub mod Acting
+pub mod Calling
+pub mod Longer
+pub mod Stepping
+pub mod Turning
+pub mod Opening
+pub mod Going

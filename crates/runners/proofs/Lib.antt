@@ -1,0 +1,10 @@
+pub mod Counting
+pub mod Ending
+pub mod Fitting
+pub mod Numbers
+pub mod Ordering
+pub mod Quiet
+pub mod Scripting
+pub mod Starting
+pub mod Stepping
+pub mod Turning

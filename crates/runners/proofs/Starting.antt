@@ -1,0 +1,85 @@
+-- The places of a scene's actors at its beginning.
+use Rattle.std.proofs.Common.{◌≡◌, ℕ, zero, suc, ◌+◌, ◌*◌, ◌≤◌, Bool, true, false, List, [], ◌∷◌, length, map, Some, refl, ap, sym, ◌∙◌, subst, arith, length-append}
+use Rattle.std.specs.Prelude.{slice_get, nat_le, ◌&&◌}
+use Rattle.std.specs.List.{flat_map, enumerate_from, list_all}
+use Rattle.std.proofs.lemmas.List.{length-map}
+use Rattle.std.proofs.lemmas.Bool.Decides.{nat_tests}
+use Rattle.kernel_values.specs.declared.scene.App.{App}
+use Rattle.kernel_values.specs.declared.script.Command.{Command}
+use Rattle.kernel_values.specs.declared.state.State.{State}
+use Rattle.kernel_values.specs.SceneLaw.{SceneValue, IsLawfulScene, scripts_of, is_lawful_app}
+use Rattle.kernel_types.specs.History.{state_after}
+use Rattle.kernel_types.specs.Opening.{opening, opening_threads}
+use Rattle.kernel_types.specs.Step.{statuses}
+use Rattle.kernel_types.specs.Turns.{history_limit}
+use Rattle.kernel_log.specs.Logs.{Log, state_of}
+use Rattle.runners.specs.declared.place.Place.{Place}
+use Rattle.runners.specs.Places.{Fits, Sound, first_place, most_actors}
+use Rattle.runners.proofs.Fitting.{fits_first}
+
+threads_many : (place : ℕ) (apps : List App) → length (flat_map opening_threads (enumerate_from place apps)) ≡ length (flat_map (λ app. app.threads) apps)
+threads_many place [] = refl
+threads_many place (app ∷ apps) =
+    let own : length (opening_threads (place, app)) ≡ length app.threads = length-map app.threads _ in
+    length-append (opening_threads (place, app)) (flat_map opening_threads (enumerate_from (place + 1) apps))
+    ∙ ((ap (λ n. n + length (flat_map opening_threads (enumerate_from (place + 1) apps))) own ∙ ap (λ n. length app.threads + n) (threads_many (place + 1) apps))
+    ∙ sym (length-append app.threads (flat_map (λ a. a.threads) apps)))
+
+-- as many actors as scripts
+pub actors_many : (scene : SceneValue) → length (statuses (opening scene)) ≡ length (scripts_of scene)
+unfolding statuses opening
+actors_many scene =
+    let threads : length (flat_map opening_threads (enumerate_from 0 scene.apps)) ≡ length (flat_map (λ app. app.threads) scene.apps) = threads_many 0 scene.apps in
+    simp (length-append, length-map) (ap (λ n. n + length scene.clients) threads)
+
+first_of_both : (a b : Bool) → (a && b) ≡ true → a ≡ true
+first_of_both true b h = refl
+first_of_both false b h = absurd (cc)
+
+second_of_both : (a b : Bool) → (a && b) ≡ true → b ≡ true
+second_of_both true b h = h
+second_of_both false b h = absurd (cc)
+
+at_most_four : (app : App) → is_lawful_app app ≡ true → nat_le (length app.threads) 4 ≡ true
+at_most_four app lawful = second_of_both _ _ (first_of_both _ _ (first_of_both _ _ (first_of_both _ _ lawful)))
+
+few_threads_in : (app : App) → is_lawful_app app ≡ true → length app.threads ≤ 4
+few_threads_in app lawful = let four : nat_le (length app.threads) 4 ≡ true = at_most_four app lawful in grind (arith, nat_tests)
+
+few_threads : (apps : List App) → list_all is_lawful_app apps ≡ true → length (flat_map (λ app. app.threads) apps) ≤ 4 * length apps
+few_threads [] h = omega arith
+few_threads (app ∷ apps) h =
+    let one : is_lawful_app app ≡ true = first_of_both (is_lawful_app app) (list_all is_lawful_app apps) h in
+    let rest : list_all is_lawful_app apps ≡ true = second_of_both (is_lawful_app app) (list_all is_lawful_app apps) h in
+    omega (arith, few_threads_in app one, few_threads apps rest, length-append app.threads (flat_map (λ a. a.threads) apps))
+
+pub few_scripts : (scene : SceneValue) → IsLawfulScene scene → length (scripts_of scene) ≤ most_actors
+few_scripts scene lawful =
+    let apps : length scene.apps ≤ 32 = grind (arith, nat_tests, lawful.few_apps) in
+    let clients : length scene.clients ≤ 8 = grind (arith, nat_tests, lawful.few_clients) in
+    omega (arith, apps, clients, few_threads scene.apps lawful.apps, length-append (flat_map (λ app. app.threads) scene.apps) (map (λ client. client.script) scene.clients), length-map scene.clients (λ client. client.script))
+
+-- each actor at its first place
+
+get_places : (scripts : List (List Command)) (number : ℕ) (script : List Command) → slice_get scripts number ≡ Some script → slice_get (map first_place scripts) number ≡ Some (first_place script)
+get_places [] number script is = absurd (cc)
+get_places (first ∷ scripts) zero script is = let same : first ≡ script = cc in ap (λ (s : List Command). Some (first_place s)) same
+get_places (first ∷ scripts) (suc number) script is = get_places scripts number script is
+
+pub sound_new : (scene : SceneValue) (scripts : List (List Command)) (places : List Place) (log : Log) → scripts ≡ scripts_of scene → length scripts ≤ most_actors → places ≡ map first_place scripts
+    → log.origin.state ≡ opening scene → log.origin.made ≡ 0 → log.journal.entries ≡ [] → Sound scripts places log
+unfolding history_limit
+sound_new scene scripts places log scripts_is few places_is state_is made_is none_yet =
+    let state : state_of log ≡ opening scene = ap (λ es. state_after log.origin.state es) none_yet ∙ state_is in
+    record {
+      kept = λ number script script_is. (
+        first_place script,
+        ap (λ (ps : List Place). slice_get ps number) places_is ∙ get_places scripts number script script_is,
+        subst (λ es. Fits number script es (first_place script)) (sym none_yet) (fits_first number script),
+      );
+      many = ap length places_is ∙ length-map scripts first_place;
+      actors = ap (λ (s : State). length (statuses s)) state ∙ (actors_many scene ∙ ap length (sym scripts_is));
+      few = few;
+      fresh = made_is;
+      short = omega (arith, ap length none_yet);
+    }

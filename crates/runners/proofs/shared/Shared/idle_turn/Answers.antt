@@ -1,0 +1,35 @@
+use Rattle.std.proofs.Common.{Option, None, subst, ap, sym, ◌∙◌}
+use Rattle.kernel_log.specs.Logs.{Wrote}
+use Rattle.kernel_log.specs.declared.logged.Receipt.{Receipt}
+use Rattle.kernel_values.specs.declared.entry.Event.TheVariants as event
+use Rattle.kernel_values.specs.declared.scene.Turn.TheVariants as turn
+use Rattle.runners.specs.Runs.{Told, run_logged}
+use Rattle.runners.specs.Steps.{Made}
+use Rattle.runners.proofs.Stepping.{sound_free, idle_not_by}
+use Rattle.runners.proofs.Turning.{may_step, room_is, took_turn, unlawful_turn, idle_means}
+use Rattle.runners.proofs.shared.Shared.idle_turn.Goals as goal
+
+pub step_once-requires : goal.step_once-requires
+step_once-requires g c = may_step c.args.self.now c.self.inside.scripts c.self.inside.places.items c.self.inside.logged (sym c.self.view_is) c.self.invariant c.requires
+
+pub returns-in_default-clause-taken : goal.returns-in_default-clause-taken
+returns-in_default-clause-taken g c =
+    let made : Made event.Idle c.self.inside.logged c.step_once.new.logged None =
+    subst (λ (r : Option Receipt). Made event.Idle c.self.inside.logged c.step_once.new.logged r) c.in_default.is c.in_ok-_receipt.ensures.made in (
+      unlawful_turn turn.Idle c.args.self.now c.self.inside.scripts c.self.inside.logged event.Idle (sym c.self.view_is) (idle_means c.self.inside.scripts (run_logged c.self.inside.logged)) made.0,
+      made.1.1 ∙ ap (λ (t : Told). t.history) c.self.view_is,
+    )
+
+pub invariant_of-self-2 : goal.invariant_of-self-2
+invariant_of-self-2 g c =
+    let wrote : Wrote event.Idle c.self.inside.logged c.step_once.new.logged c.in-Some._receipt.place =
+    subst (λ (r : Option Receipt). Made event.Idle c.self.inside.logged c.step_once.new.logged r) c.in-Some.is c.in_ok-_receipt.ensures.made in
+    sound_free c.self.inside.scripts c.self.inside.places.items c.self.inside.logged c.step_once.new.logged event.Idle c.in-Some._receipt.place c.self.invariant wrote
+    (room_is c.args.self.now c.self.inside.scripts c.self.inside.logged (sym c.self.view_is) c.requires) idle_not_by
+
+pub returns-clause-taken : goal.returns-clause-taken
+returns-clause-taken g c =
+    let wrote : Wrote event.Idle c.self.inside.logged c.step_once.new.logged c.in-Some._receipt.place =
+    subst (λ (r : Option Receipt). Made event.Idle c.self.inside.logged c.step_once.new.logged r) c.in-Some.is c.in_ok-_receipt.ensures.made in
+    took_turn turn.Idle c.args.self.now c.self.inside.scripts c.self.inside.logged c.step_once.new.logged event.Idle c.in-Some._receipt.place (sym c.self.view_is)
+    (idle_means c.self.inside.scripts (run_logged c.self.inside.logged)) wrote

@@ -1,0 +1,9 @@
+use Rattle.std.proofs.Common.{◌∙◌, ap, map}
+use Rattle.runners.specs.Places.{first_place}
+use Rattle.runners.proofs.Starting.{sound_new}
+use Rattle.runners.proofs.shared.Shared.new.Goals as goal
+
+pub invariant_of-result : goal.invariant_of-result
+invariant_of-result g c =
+    sound_new c.args.scene.now c.in_ok-scripts.scripts c.in_ok-places.places.items c.new.result c.in_ok-scripts.ensures.scripts c.in_ok-scripts.ensures.few
+    (c.in_ok-places.ensures ∙ ap (λ scripts. map first_place scripts) c.as_slice.ensures) (c.new.ensures.state ∙ c.requires.state) (c.new.ensures.made ∙ c.requires.made) c.new.ensures.entries

@@ -1,0 +1,58 @@
+-- Where each actor stands at its script, and how that fits to a history.
+use Rattle.std.specs.Prelude.{◌≡◌, ◌≤◌, ◌<◌, ◌+◌, ℕ, Bool, true, false, List, [], length, Option, Some, None, slice_get}
+use Rattle.kernel_values.specs.declared.entry.Entry.{Entry}
+use Rattle.kernel_values.specs.declared.reply.Answer.{Answer}
+use Rattle.kernel_values.specs.declared.script.Command.{Command}
+use Rattle.kernel_types.specs.Scripts.{script_begin, stand_on, answered}
+use Rattle.kernel_types.specs.Whole.{calls_in, answers_in, final_answer, InScript}
+use Rattle.kernel_types.specs.Step.{statuses}
+use Rattle.kernel_types.specs.Turns.{history_limit}
+use Rattle.kernel_log.specs.Logs.{Log, state_of}
+use Rattle.script_actor.specs.Actors.{acting}
+use Rattle.runners.specs.declared.place.Place.{Place}
+
+-- after the step of its call or of the end of its wait: with an answer that gives or refuses the actor goes on, else it waits
+
+abbrev pub after_final : Place → Option Answer → Place
+after_final place None = record place { waits = true }
+after_final place (Some answer) = record {
+  actor = record place.actor { stand = answered place.actor.script place.actor.stand answer };
+  waits = false;
+}
+
+abbrev pub after_answer : Place → Answer → Place
+after_answer place answer = after_final place (final_answer answer)
+
+-- at the beginning of a script, by the first start
+abbrev pub first_place : List Command → Place
+first_place script = record { actor = acting script 1; waits = false }
+
+abbrev pub pending : Bool → ℕ
+pending true = 1
+pending false = 0
+
+-- the place of an actor with this script after the entries: it stands where its answers by its start took it, one
+-- call more than answers where it waits, and no later start made a call
+pub record Fits (number : ℕ) (script : List Command) (entries : List Entry) (place : Place) : Type 0 where
+  pub script_is : place.actor.script ≡ script
+  pub stand_is : place.actor.stand ≡ stand_on script script_begin (answers_in number place.actor.start entries)
+  pub count : length (calls_in number place.actor.start entries) ≡ length (answers_in number place.actor.start entries) + pending place.waits
+  pub later : (start : ℕ) → place.actor.start < start → (calls_in number start entries ≡ []) × (answers_in number start entries ≡ [])
+  pub in_script : (start : ℕ) → InScript script (calls_in number start entries) (answers_in number start entries)
+
+abbrev pub Kept : List (List Command) → List Place → List Entry → Type 0
+Kept scripts places entries = (number : ℕ) (script : List Command) → slice_get scripts number ≡ Some script
+    → (place : Place) × (slice_get places number ≡ Some place) × Fits number script entries place
+
+-- a scene has at most 32 applications of 4 threads, and 8 clients
+abbrev pub most_actors : ℕ
+most_actors = 136
+
+-- each actor has a place that fits, each script an actor, and the log is of a new kernel and no longer than a run
+pub record Sound (scripts : List (List Command)) (places : List Place) (log : Log) : Type 0 where
+  pub kept : Kept scripts places log.journal.entries
+  pub many : length places ≡ length scripts
+  pub actors : length (statuses (state_of log)) ≡ length scripts
+  pub few : length scripts ≤ most_actors
+  pub fresh : log.origin.made ≡ 0
+  pub short : length log.journal.entries ≤ history_limit

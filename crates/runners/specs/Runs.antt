@@ -1,0 +1,90 @@
+-- What runs come to.
+use Rattle.std.specs.Prelude.{◌≡◌, ◌<◌, ◌+◌, ℕ, false, List, length, Option, Some, None, ⊤}
+use Rattle.kernel_values.specs.Origin.{Origin}
+use Rattle.kernel_values.specs.SceneLaw.{SceneValue, scripts_of}
+use Rattle.kernel_values.specs.declared.entry.Entry.{Entry}
+use Rattle.kernel_values.specs.declared.scene.Turn.{Turn}
+use Rattle.kernel_values.specs.declared.script.Command.{Command}
+use Rattle.kernel_values.specs.declared.state.State.{State}
+use Rattle.kernel_types.specs.History.{Legal, state_after}
+use Rattle.kernel_types.specs.Facts.{is_at_end}
+use Rattle.kernel_types.specs.Opening.{opening}
+use Rattle.kernel_types.specs.Whole.{FollowsScripts, IsWholeHistory}
+use Rattle.kernel_types.specs.Step.{step}
+use Rattle.kernel_types.specs.Turns.{Run, ran, refused, run_turn, run_from, run_by, replay_of, serial_from, serial_turns, history_limit}
+use Rattle.kernel_log.specs.Logs.{Log, state_of}
+use Rattle.runners.specs.declared.serial_order.RunRefused.{RunRefused}
+use Rattle.runners.specs.declared.serial_order.RunRefused.TheVariants as run_refused
+use Rattle.runners.specs.declared.replays.ReplayRefused.{ReplayRefused}
+use Rattle.runners.specs.declared.replays.ReplayRefused.TheVariants as replay_refused
+use Rattle.runners.specs.declared.steps.Taken.{Taken}
+use Rattle.runners.specs.declared.steps.Taken.TheVariants.{Stepped, Unlawful}
+
+-- what a kernel with its actors' scripts stands for
+pub record Told : Type 0 where
+  pub origin : Origin
+  pub history : List Entry
+
+-- the history of the log, in which actors follow these scripts
+abbrev pub told_of : List (List Command) → Log → Told
+told_of scripts log = record { origin = record { state = log.origin.state; scripts = scripts; made = 0 }; history = log.journal.entries }
+
+abbrev pub state_told : Told → State
+state_told told = state_after told.origin.state told.history
+
+abbrev pub run_told : Told → Run
+run_told told = record { state = state_told told; entries = told.history }
+
+-- the run is one turn longer; or the turn's event is not lawful, and all stands
+abbrev pub TookTurn : Turn → Told → Told → Taken → Type 0
+TookTurn turn told next Stepped = run_turn step told.origin.scripts (run_told told) turn ≡ Some (run_told next)
+TookTurn turn told next Unlawful = (run_turn step told.origin.scripts (run_told told) turn ≡ None) × (next.history ≡ told.history)
+
+abbrev pub run_logged : Log → Run
+run_logged log = record { state = state_of log; entries = log.journal.entries }
+
+-- the journal is the history of these turns: legal from the state in which the scene begins, and each actor's calls are its script's
+pub record IsRunBy (scene : SceneValue) (turns : List Turn) (log : Log) : Type 0 where
+  pub opening_is : log.origin.state ≡ opening scene
+  pub run_is : run_by scene turns ≡ ran (run_logged log)
+  pub legal : Legal (opening scene) log.journal.entries
+  pub follows : FollowsScripts (scripts_of scene) log.journal.entries
+
+-- the whole run of the scene in the serial order
+pub record IsWholeRun (scene : SceneValue) (turns : List Turn) (log : Log) : Type 0 where
+  pub run : IsRunBy scene turns log
+  pub whole : IsWholeHistory scene log.journal.entries
+
+-- the first turns of a serial run, as many as a run may have, and it is not whole after them
+pub record IsCutShort (scene : SceneValue) (log : Log) : Type 0 where
+  pub run : IsRunBy scene (serial_turns scene) log
+  pub full : length log.journal.entries ≡ history_limit
+  pub unfinished : is_at_end (state_of log) ≡ false
+
+abbrev pub IsStopped : {K : Type 0} → SceneValue → RunRefused K → Type 0
+IsStopped scene (run_refused.TooLong log) = IsCutShort scene log
+IsStopped scene run_refused.NoMemory = ⊤
+
+-- the turns that the scene lists are lawful one after another, and whole at their end
+pub record IsReplay (scene : SceneValue) (log : Log) : Type 0 where
+  pub whole : IsWholeRun scene scene.turns log
+  pub replay_is : replay_of scene ≡ ran (run_logged log)
+
+abbrev pub IsReplayRefused : SceneValue → ReplayRefused → Type 0
+IsReplayRefused scene (replay_refused.Turn k) = replay_of scene ≡ refused k
+IsReplayRefused scene replay_refused.NoMemory = ⊤
+
+-- the first actor that is asked for the next turn
+abbrev pub first_after : Option ℕ → ℕ
+first_after None = 0
+first_after (Some last) = last + 1
+
+abbrev pub IsBelow : ℕ → Option ℕ → Type 0
+IsBelow count None = ⊤
+IsBelow count (Some last) = last < count
+
+-- the run went on by its serial turns, to its end or to as many entries as a run may have
+pub record RanSerially (told next : Told) : Type 0 where
+  pub origin_is : next.origin ≡ told.origin
+  pub run_is : run_from step told.origin.scripts 0 (run_told told) (serial_from step told.origin.scripts history_limit None (run_told told)) ≡ ran (run_told next)
+  pub full : is_at_end (state_told next) ≡ false → length next.history ≡ history_limit

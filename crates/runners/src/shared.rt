@@ -1,0 +1,259 @@
+//! A kernel with its journal and each actor's place at its script: all that a run shares.
+
+ghost use Rattle.std.specs.Prelude.{◌≡◌, ◌≤◌, ◌<◌, [], Some, length, slice_get, IfOk, OnOk, OnErr};
+ghost use Rattle.kernel_values.specs.SceneLaw.{scripts_of};
+ghost use Rattle.kernel_types.specs.Opening.{opening};
+ghost use Rattle.kernel_types.specs.History.{Legal};
+ghost use Rattle.kernel_types.specs.Facts.{status_at, is_at_end};
+ghost use Rattle.kernel_types.specs.Step.{statuses, movable, device_has_work, idle_lawful};
+ghost use Rattle.kernel_types.specs.Whole.{FollowsScripts};
+ghost use Rattle.kernel_types.specs.Turns.{history_limit, takes_turn};
+ghost use Rattle.kernel_log.specs.Logs.{Log};
+ghost use Rattle.runners.specs.Runs.{Told, TookTurn, state_told};
+
+use crate::place::Place;
+use crate::scripts::{places_of, scripts_of};
+use crate::steps::{Taken, step_of, step_once};
+use kernel_log::Logged;
+use kernel_types::IpcKernel;
+use kernel_types::values::{
+    ActorId, ActorStatus, Event, NoMemory, Recorded, Scene, ScriptList, Turn,
+};
+use std::alloc::Global;
+use std::marker::Model;
+
+/// A Logged kernel, each actor's script, and where each actor stands at it. Its history is legal, and
+/// each actor's calls in it are its script's, each once, in their order.
+#[derive(Drop)]
+pub struct Shared<K: IpcKernel + Drop> {
+    logged: Logged<K>,
+    scripts: ScriptList,
+    places: Vec<Place>,
+    alloc: Global,
+}
+
+impl<K: IpcKernel + Drop> Model for Shared<K> {
+    ghost use Rattle.runners.specs.Runs.{Told, told_of};
+    ghost use Rattle.runners.specs.Places.{Sound};
+
+    ghost Value = { Told };
+
+    ghost view = { λ s. told_of s.scripts s.logged };
+
+    ghost invariant = { λ s. Sound s.scripts s.places.items s.logged };
+}
+
+impl<K: IpcKernel + Drop> Shared<K> {
+    /// A new kernel that stands for the opening state of the scene, with the scene's scripts.
+    pub fn new(alloc: Global, kernel: K, scene: &Scene) -> Result<Shared<K>, NoMemory>
+        requires state { K.state kernel ≡ opening scene.now }
+        requires made { K.made kernel ≡ 0 }
+        ensures origin { IfOk result (λ shared. shared.origin ≡ record { state = opening scene.now; scripts = scripts_of scene.now; made = 0 }) }
+        ensures history { IfOk result (λ shared. shared.history ≡ []) }
+    {
+        let scripts = scripts_of(alloc, scene)?;
+        let places = places_of(alloc, scripts.as_slice())?;
+        Ok(Shared {
+            logged: Logged::new(alloc, kernel),
+            scripts,
+            places,
+            alloc,
+        })
+    }
+
+    /// Hands the Logged kernel over.
+    pub fn into_logged(self) -> Logged<K>
+        ensures state { result.origin.state ≡ self.origin.state }
+        ensures entries { result.journal.entries ≡ self.history }
+    {
+        let Shared {
+            logged,
+            scripts: _,
+            places: _,
+            alloc: _,
+        } = self;
+        logged
+    }
+
+    /// What the type keeps: the history is legal, no longer than a run may be, and follows the scripts.
+    pub fn legal(&self)
+        ensures legal { Legal self.now.origin.state self.now.history }
+        ensures follows { FollowsScripts self.now.origin.scripts self.now.history }
+        ensures short { length self.now.history ≤ history_limit }
+    {
+        self.logged.legal();
+    }
+
+    /// Whether the run is whole: every actor is Ended or was never started, and the device has no work.
+    pub fn is_over(&self) -> bool
+        ensures { result ≡ is_at_end (state_told self.now) }
+    {
+        self.logged.kernel().whole()
+    }
+
+    /// The number of actors.
+    pub fn actors(&self) -> u32
+        ensures scripts { result ≡ length self.now.origin.scripts }
+        ensures statuses { result ≡ length (statuses (state_told self.now)) }
+    {
+        self.places.len() as u32
+    }
+
+    /// Whether the actor runs, or waits and may move.
+    pub fn takes_turn(&self, actor: u32) -> bool
+        requires { actor < length (statuses (state_told self.now)) }
+        ensures { result ≡ takes_turn (state_told self.now) actor }
+    {
+        let kernel = self.logged.kernel();
+        match kernel.status(ActorId(actor)) {
+            ActorStatus::Running { .. } => true,
+            ActorStatus::Waiting { .. } => kernel.movable(ActorId(actor)),
+            ActorStatus::Off | ActorStatus::Ended { .. } => false,
+        }
+    }
+
+    pub fn device_has_work(&self) -> bool
+        ensures { result ≡ device_has_work (state_told self.now) }
+    {
+        self.logged.kernel().device_has_work()
+    }
+
+    pub fn idle_lawful(&self) -> bool
+        ensures { result ≡ idle_lawful (state_told self.now) }
+    {
+        self.logged.kernel().idle_lawful()
+    }
+
+    /// Takes one turn: the actor's next event, a step of the device, or Idle. Refused for want of memory,
+    /// all stands as before.
+    pub fn turn(&mut self, turn: Turn) -> Result<Taken, NoMemory>
+        requires { length self.old.history < history_limit }
+        ensures origin { self.new.origin ≡ self.old.origin }
+        ensures taken { IfOk result (λ taken. TookTurn turn self.old self.new taken) }
+        ensures err { OnErr result (self.new.history ≡ self.old.history) }
+    {
+        match turn {
+            Turn::Actor(actor) => self.actor_turn(actor),
+            Turn::Device => self.device_turn(),
+            Turn::Idle => self.idle_turn(),
+        }
+    }
+
+    fn actor_turn(&mut self, actor: u32) -> Result<Taken, NoMemory>
+        requires { length self.old.history < history_limit }
+        ensures origin { self.new.origin ≡ self.old.origin }
+        ensures taken { IfOk result (λ taken. TookTurn (Turn.Actor actor) self.old self.new taken) }
+        ensures err { OnErr result (self.new.history ≡ self.old.history) }
+    {
+        if actor as usize >= self.places.len() {
+            return Ok(Taken::Unlawful);
+        }
+        match self.logged.kernel().status(ActorId(actor)) {
+            ActorStatus::Running { start } => self.begin(actor, start),
+            ActorStatus::Waiting { start } => self.resume(actor, start),
+            ActorStatus::Off => Ok(Taken::Unlawful),
+            ActorStatus::Ended { .. } => Ok(Taken::Unlawful),
+        }
+    }
+
+    fn begin(&mut self, actor: u32, start: u32) -> Result<Taken, NoMemory>
+        requires room { length self.old.history < history_limit }
+        requires runs { status_at (state_told self.old) actor ≡ Some (ActorStatus.Running start) }
+        ensures origin { self.new.origin ≡ self.old.origin }
+        ensures taken { IfOk result (λ taken. TookTurn (Turn.Actor actor) self.old self.new taken) }
+        ensures err { OnErr result (self.new.history ≡ self.old.history) }
+    {
+        self.start_anew(actor, start)?;
+        self.call(actor, start)
+    }
+
+    // An actor that was started again begins its script anew.
+    fn start_anew(&mut self, actor: u32, start: u32) -> Result<(), NoMemory>
+        ensures { self.new ≡ self.old }
+    {
+        let Some(script) = self.scripts.get(actor as usize) else {
+            return Ok(());
+        };
+        if self.places[actor as usize].actor.start() < start {
+            self.places[actor as usize] = Place::new(self.alloc, script, start)?;
+        }
+        Ok(())
+    }
+
+    fn call(&mut self, actor: u32, start: u32) -> Result<Taken, NoMemory>
+        requires room { length self.old.history < history_limit }
+        requires runs { status_at (state_told self.old) actor ≡ Some (ActorStatus.Running start) }
+        ensures origin { self.new.origin ≡ self.old.origin }
+        ensures taken { IfOk result (λ taken. TookTurn (Turn.Actor actor) self.old self.new taken) }
+        ensures err { OnErr result (self.new.history ≡ self.old.history) }
+    {
+        let place = &mut self.places[actor as usize];
+        // The places keep step with what the kernel says of the actors, so this does not come. That
+        // it does not is not proved; the answer is the free one.
+        if place.waits || place.actor.start() != start {
+            return Err(NoMemory);
+        }
+        let Some(call) = place.actor.next()? else {
+            return Ok(Taken::Unlawful);
+        };
+        let event = Event::Begin {
+            actor: ActorId(actor),
+            start,
+            call,
+        };
+        step_of(&mut self.logged, place, event)
+    }
+
+    fn resume(&mut self, actor: u32, start: u32) -> Result<Taken, NoMemory>
+        requires room { length self.old.history < history_limit }
+        requires waits { status_at (state_told self.old) actor ≡ Some (ActorStatus.Waiting start) }
+        ensures origin { self.new.origin ≡ self.old.origin }
+        ensures taken { IfOk result (λ taken. TookTurn (Turn.Actor actor) self.old self.new taken) }
+        ensures err { OnErr result (self.new.history ≡ self.old.history) }
+    {
+        let place = &mut self.places[actor as usize];
+        // As for a call: not known to be impossible, and never seen.
+        if !place.waits || place.actor.start() != start {
+            return Err(NoMemory);
+        }
+        let event = Event::Resume {
+            actor: ActorId(actor),
+            start,
+        };
+        step_of(&mut self.logged, place, event)
+    }
+
+    fn device_turn(&mut self) -> Result<Taken, NoMemory>
+        requires { length self.old.history < history_limit }
+        ensures origin { self.new.origin ≡ self.old.origin }
+        ensures taken { IfOk result (λ taken. TookTurn Turn.Device self.old self.new taken) }
+        ensures err { OnErr result (self.new.history ≡ self.old.history) }
+    {
+        let Some(_receipt) = step_once(&mut self.logged, Event::Device)? else {
+            return Ok(Taken::Unlawful);
+        };
+        Ok(Taken::Stepped)
+    }
+
+    fn idle_turn(&mut self) -> Result<Taken, NoMemory>
+        requires { length self.old.history < history_limit }
+        ensures origin { self.new.origin ≡ self.old.origin }
+        ensures taken { IfOk result (λ taken. TookTurn Turn.Idle self.old self.new taken) }
+        ensures err { OnErr result (self.new.history ≡ self.old.history) }
+    {
+        let Some(_receipt) = step_once(&mut self.logged, Event::Idle)? else {
+            return Ok(Taken::Unlawful);
+        };
+        Ok(Taken::Stepped)
+    }
+}
+
+impl<K: IpcKernel + Drop> Recorded for Shared<K> {
+    ghost history = { λ s. s.history };
+
+    ghost origin = { λ s. s.origin };
+
+    fn recorded(&self) -> u64 {
+        self.logged.journal().len()
+    }
+}

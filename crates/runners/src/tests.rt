@@ -1,0 +1,139 @@
+ghost use Rattle.std.specs.Prelude.{◌≡◌, ◌≤◌, IfOk, length};
+ghost use Rattle.kernel_types.specs.Opening.{opening};
+ghost use Rattle.kernel_log.specs.Quiet.{quiet};
+
+use crate::*;
+use kernel_types::values::{
+    ActorId, ActorStatus, EndFacts, Entry, Event, Events, Items, NoMemory, ObjId, Recorded, Scene,
+    Turn,
+};
+use kernel_types::{IpcKernel, StepCause, StepRefused};
+use std::alloc::Global;
+use std::test::Fail;
+
+// A kernel of a scene without actors: no event is lawful.
+#[derive(Drop)]
+struct Quiet;
+
+#[tactic(auto, unfolding(kernel_types::specs::Step::statuses, kernel_types::specs::Step::movable, kernel_types::specs::Waits::thread_movable, kernel_types::specs::Step::idle_lawful, kernel_types::specs::Step::device_has_work, kernel_types::specs::Facts::is_at_end, kernel_types::specs::Names::naming), using(kernel_log::proofs::Quiets::nothing_moves, kernel_log::proofs::Quiets::nobody))]
+impl IpcKernel for Quiet {
+    ghost use Rattle.kernel_log.specs.Quiet.{quiet};
+
+    ghost state = { λ _. quiet };
+
+    ghost made = { λ _. 0 };
+
+    ghost spares = { λ _ _. ⊥ };
+
+    fn step(&mut self, event: Event) -> Result<Entry, StepRefused> {
+        Err(StepRefused {
+            event,
+            cause: StepCause::NotMovable(None),
+        })
+    }
+
+    fn status(&self, _actor: ActorId) -> ActorStatus {
+        unreachable!()
+    }
+
+    fn movable(&self, _actor: ActorId) -> bool {
+        false
+    }
+
+    fn is_client(&self, _actor: ActorId) -> bool {
+        false
+    }
+
+    fn device_has_work(&self) -> bool {
+        false
+    }
+
+    fn idle_lawful(&self) -> bool {
+        false
+    }
+
+    fn whole(&self) -> bool {
+        true
+    }
+
+    fn end_facts(&self) -> EndFacts {
+        EndFacts {
+            clock: 0,
+            objects: 0,
+            names: 0,
+        }
+    }
+
+    fn names(&self, _object: ObjId) -> Option<u64> {
+        None
+    }
+
+    fn events(&self, _object: ObjId) -> Option<Events> {
+        None
+    }
+}
+
+#[tactic(auto, unfolding(kernel_types::specs::Opening::opening))]
+fn empty_scene(alloc: Global, turns: &[Turn]) -> Result<Scene, NoMemory>
+    ensures state { IfOk result (λ scene. opening scene ≡ quiet) }
+    ensures turns { IfOk result (λ scene. scene.turns ≡ turns.now) }
+{
+    Ok(Scene {
+        apps: Items::new(alloc),
+        clients: Items::new(alloc),
+        queue: 1,
+        turns: Items::from_slice(alloc, turns)?,
+    })
+}
+
+// A scene without actors is whole at once, and needs no turn.
+#[test]
+#[tactic(auto, unfolding(kernel_types::specs::Turns::history_limit))]
+fn no_actor_needs_no_turn(rt: HostRuntime) -> Result<(), Fail> {
+    let none: [Turn; 0] = [];
+    let scene = empty_scene(rt.alloc(), none.as_slice())?;
+    let whole = match serial(rt.alloc(), Quiet, &scene) {
+        Ok(logged) => logged.journal().len() == 0,
+        Err(_refused) => false,
+    };
+    assert!(rt; whole);
+    let replayed = match replay(rt.alloc(), Quiet, &scene) {
+        Ok(logged) => logged.journal().len() == 0,
+        Err(_refused) => false,
+    };
+    assert!(rt; replayed);
+    Ok(())
+}
+
+// A turn after a whole run is refused by its number.
+#[test]
+#[tactic(auto, unfolding(kernel_types::specs::Turns::history_limit))]
+fn a_turn_after_the_end_is_refused(rt: HostRuntime) -> Result<(), Fail> {
+    for turn in [Turn::Actor(0), Turn::Device, Turn::Idle] {
+        let scene = empty_scene(rt.alloc(), [turn].as_slice())?;
+        let refused = match replay(rt.alloc(), Quiet, &scene) {
+            Ok(_logged) => false,
+            Err(refused) => refused == ReplayRefused::Turn(0),
+        };
+        assert!(rt; refused);
+    }
+    Ok(())
+}
+
+// All that a run shares, by hand.
+#[test]
+#[tactic(auto, unfolding(kernel_types::specs::Turns::history_limit))]
+fn a_shared_kernel_of_nobody(rt: HostRuntime) -> Result<(), Fail> {
+    let none: [Turn; 0] = [];
+    let scene = empty_scene(rt.alloc(), none.as_slice())?;
+    let mut shared = Shared::new(rt.alloc(), Quiet, &scene)?;
+    assert!(rt; shared.turn(Turn::Idle)? == Taken::Unlawful);
+    assert!(rt; shared.actors() == 0);
+    assert!(rt; !shared.device_has_work());
+    assert!(rt; !shared.idle_lawful());
+    assert!(rt; shared.is_over());
+    assert!(rt; shared.recorded() == 0);
+    shared.legal();
+    assert!(rt; shared.into_logged().journal().len() == 0);
+    Ok(())
+}
