@@ -1,0 +1,67 @@
+-- A text fixes its lines: what stands in front of the first byte that no word has is the first word, and so on.
+use Rattle.std.proofs.Common.{◌≡◌, ◌<◌, ◌≤◌, ℕ, List, [], ◌∷◌, ◌++◌, length, drop, get_or, refl, sym, ap, ◌∙◌, append_assoc, arith, length-append}
+use Rattle.std.specs.List.{AllByRecursion}
+use Rattle.report_text.specs.Lines.{blank, line_end, spelled, lined, text_of}
+use Rattle.report_laws.specs.Plain.{IsWord, IsLine}
+
+head_is : (x y : ℕ) (xs ys : List ℕ) → x ∷ xs ≡ y ∷ ys → x ≡ y
+head_is x y xs ys e = ap (λ l. get_or {A = ℕ} l 0 0) e
+
+tail_is : (x y : ℕ) (xs ys : List ℕ) → x ∷ xs ≡ y ∷ ys → xs ≡ ys
+tail_is x y xs ys e = ap (drop 1) e
+
+word_ends : (v w a b : List ℕ) (x y : ℕ) → IsWord v → IsWord w → x ≤ blank → y ≤ blank → v ++ x ∷ a ≡ w ++ y ∷ b → (v ≡ w) × (x ∷ a ≡ y ∷ b)
+word_ends [] [] a b x y p q l m e = (refl, e)
+word_ends [] (c ∷ w) a b x y p q l m e = absurd (omega (arith, head_is x c a (w ++ y ∷ b) e, l, q.0))
+word_ends (d ∷ v) [] a b x y p q l m e = absurd (omega (arith, head_is d y (v ++ x ∷ a) b e, m, p.0))
+word_ends (d ∷ v) (c ∷ w) a b x y p q l m e =
+    let later = word_ends v w a b x y p.1 q.1 l m (tail_is d c (v ++ x ∷ a) (w ++ y ∷ b) e) in
+    (ap (λ z. z ∷ v) (head_is d c (v ++ x ∷ a) (w ++ y ∷ b) e) ∙ ap (λ l. c ∷ l) later.0, later.1)
+
+-- what follows a word begins with a byte that no word has
+record Parted (text : List ℕ) : Type 0 where
+  first : ℕ
+  rest : List ℕ
+  parts : first ≤ blank
+  is : text ≡ first ∷ rest
+
+parted : (words : List (List ℕ)) (a : List ℕ) → Parted (spelled words ++ line_end ∷ a)
+parted [] a = record { first = line_end; rest = a; parts = omega arith; is = refl }
+parted (word ∷ words) a = record { first = blank; rest = (word ++ spelled words) ++ line_end ∷ a; parts = omega arith; is = refl }
+
+words_end : (xs ys : List (List ℕ)) (a b : List ℕ) → AllByRecursion IsWord xs → AllByRecursion IsWord ys
+    → spelled xs ++ line_end ∷ a ≡ spelled ys ++ line_end ∷ b → (xs ≡ ys) × (a ≡ b)
+words_end [] [] a b p q e = (refl, tail_is line_end line_end a b e)
+words_end [] (y ∷ ys) a b p q e = absurd (omega (arith, head_is line_end blank a ((y ++ spelled ys) ++ line_end ∷ b) e))
+words_end (x ∷ xs) [] a b p q e = absurd (omega (arith, head_is blank line_end ((x ++ spelled xs) ++ line_end ∷ a) b e))
+words_end (x ∷ xs) (y ∷ ys) a b p q e =
+    let after_x = parted xs a in
+    let after_y = parted ys b in
+    let same = tail_is blank blank ((x ++ spelled xs) ++ line_end ∷ a) ((y ++ spelled ys) ++ line_end ∷ b) e in
+    let one = word_ends x y after_x.rest after_y.rest after_x.first after_y.first p.0 q.0 after_x.parts after_y.parts
+    (ap (λ l. x ++ l) (sym after_x.is) ∙ sym (append_assoc x (spelled xs) (line_end ∷ a)) ∙ same
+    ∙ append_assoc y (spelled ys) (line_end ∷ b) ∙ ap (λ l. y ++ l) after_y.is) in
+    let later = words_end xs ys a b p.1 q.1 (after_x.is ∙ one.1 ∙ sym after_y.is) in
+    (ap (λ z. z ∷ xs) one.0 ∙ ap (λ l. y ∷ l) later.0, later.1)
+
+-- a text with a blank in front of its first line
+led : (word : List ℕ) (words : List (List ℕ)) (lines : List (List (List ℕ)))
+    → blank ∷ text_of ((word ∷ words) ∷ lines) ≡ spelled (word ∷ words) ++ line_end ∷ text_of lines
+unfolding lined
+led word words lines = ap (λ l. blank ∷ l) (append_assoc (word ++ spelled words) (line_end ∷ []) (text_of lines))
+
+some_text : (word : List ℕ) (words : List (List ℕ)) (lines : List (List (List ℕ))) → [] ≡ text_of ((word ∷ words) ∷ lines) → 1 ≤ 0
+some_text word words lines e =
+    let lengths = ap length (ap (λ l. blank ∷ l) e ∙ led word words lines) in
+    omega (arith, lengths, length-append (spelled (word ∷ words)) (line_end ∷ text_of lines), length-append word (spelled words))
+
+pub lines_fixed : (xs ys : List (List (List ℕ))) → AllByRecursion IsLine xs → AllByRecursion IsLine ys → text_of xs ≡ text_of ys → xs ≡ ys
+lines_fixed [] [] p q e = refl
+lines_fixed [] ([] ∷ ys) p q e = absurd q.0
+lines_fixed ([] ∷ xs) ys p q e = absurd p.0
+lines_fixed [] ((w ∷ ws) ∷ ys) p q e = absurd (omega (arith, some_text w ws ys e))
+lines_fixed ((v ∷ vs) ∷ xs) [] p q e = absurd (omega (arith, some_text v vs xs (sym e)))
+lines_fixed ((v ∷ vs) ∷ xs) ([] ∷ ys) p q e = absurd q.0
+lines_fixed ((v ∷ vs) ∷ xs) ((w ∷ ws) ∷ ys) p q e =
+    let one = words_end (v ∷ vs) (w ∷ ws) (text_of xs) (text_of ys) p.0 q.0 (sym (led v vs xs) ∙ ap (λ l. blank ∷ l) e ∙ led w ws ys) in
+    ap (λ z. z ∷ xs) one.0 ∙ ap (λ l. (w ∷ ws) ∷ l) (lines_fixed xs ys p.1 q.1 one.1)

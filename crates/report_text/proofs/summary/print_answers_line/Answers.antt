@@ -1,0 +1,8 @@
+use Rattle.report_text.proofs.Printed.{line_not_begun, line_printed}
+use Rattle.report_text.proofs.summary.print_answers_line.Goals as goal
+
+pub returns-in_err-write_answers : goal.returns-in_err-write_answers
+returns-in_err-write_answers g c = line_not_begun _ c.from_residual.ensures.1
+
+pub returns : goal.returns
+returns g c = line_printed _ c.print_line.ensures c.in_ok-write_answers.ensures c.clear.ensures
