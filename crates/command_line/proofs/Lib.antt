@@ -1,0 +1,6 @@
+pub mod ClapApp
+pub mod WordShapes
+pub mod Unknown
+pub mod Walks
+pub mod Agreement
+pub mod Parsed

@@ -1,0 +1,10 @@
+//! The words after the program's name: `serial`, `replay` or `run`, with the report's form by
+//! `--form history`, `actors`, `counts` or `summary`.
+#![tactic(auto)]
+
+mod command;
+#[cfg(test)]
+mod tests;
+mod words;
+
+pub use command::{Command, command_of};
