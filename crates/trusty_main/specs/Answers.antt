@@ -1,0 +1,102 @@
+-- What each status of the program says.
+use Rattle.std.specs.Prelude.{◌≡◌, ◌≢◌, ◌≤◌, ℕ, List, ◌++◌, false, length, Option, Some, None, Result, Ok, Err, ⊤}
+use Rattle.std.specs.Io.KnownBytes.{Appends}
+use Rattle.kernel_types.specs.History.{Legal, state_after}
+use Rattle.kernel_types.specs.Opening.{opening}
+use Rattle.kernel_types.specs.Turns.{Run, ran, refused, history_limit}
+use Rattle.kernel_types.specs.Whole.{IsWholeHistory, FollowsScripts}
+use Rattle.kernel_types.specs.Facts.{is_at_end}
+use Rattle.kernel_values.specs.SceneLaw.{SceneValue, scripts_of}
+use Rattle.outside_io.specs.Faults.{Rose}
+use Rattle.scene_reader.specs.declared.fault.SceneFault.{SceneFault}
+use Rattle.trusty_main.specs.Due.{Due, due}
+use Rattle.trusty_main.specs.Plans.{outturn_of}
+use Rattle.trusty_main.specs.Texts.{usage_text}
+use Rattle.trusty_main.specs.declared.plan.Order.{Order}
+use Rattle.trusty_main.specs.declared.plan.Plan.{Plan}
+use Rattle.trusty_main.specs.declared.status.Status.{Status}
+use Rattle.trusty_main.specs.declared.status.Status.TheVariants as status
+
+-- The run of a plan is one legal history of the sequential kernel from the scene's opening state, in which each actor's
+-- calls are its script's, each once, in its order, to its end.
+pub record IsWholeRun (order : Order) (scene : SceneValue) : Type 0 where
+  pub run : Run
+  pub run_is : outturn_of order scene ≡ ran run
+  pub legal : Legal (opening scene) run.entries
+  pub state_is : run.state ≡ state_after (opening scene) run.entries
+  pub whole : IsWholeHistory scene run.entries
+
+-- The run has as many entries as a run may have, and is not at its end.
+pub record IsEndless (order : Order) (scene : SceneValue) : Type 0 where
+  pub run : Run
+  pub run_is : outturn_of order scene ≡ ran run
+  pub legal : Legal (opening scene) run.entries
+  pub state_is : run.state ≡ state_after (opening scene) run.entries
+  pub follows : FollowsScripts (scripts_of scene) run.entries
+  pub long : length run.entries ≡ history_limit
+  pub goes_on : is_at_end run.state ≡ false
+
+-- the turn with this number is the first that is not lawful, or the first after a list that ends too early
+pub record IsRefused (order : Order) (scene : SceneValue) : Type 0 where
+  pub turn : ℕ
+  pub refused_is : outturn_of order scene ≡ refused turn
+
+-- the status is the one that is due, and the whole text was appended
+pub record Told (due : Due) (told : Status) (old new : Option (List ℕ)) : Type 0 where
+  pub status_is : due.status ≡ told
+  pub appended : Appends old new due.text
+
+-- a front of the text was appended: nothing, a part of it, or all
+pub record AppendsSome (old new : Option (List ℕ)) (text : List ℕ) : Type 0 where
+  pub front : List ℕ
+  pub rest : List ℕ
+  pub parts : text ≡ front ++ rest
+  pub appended : Appends old new front
+
+-- What came of telling what is due.
+pub record Tells (due : Due) (old new : Option (List ℕ)) (before now : ℕ) (result : Status) : Type 0 where
+  pub done : result ≡ status.Done → Told due status.Done old new
+  pub input_refused : result ≡ status.InputRefused → Told due status.InputRefused old new
+  pub turn_refused : result ≡ status.TurnRefused → Told due status.TurnRefused old new
+  pub run_too_long : result ≡ status.RunTooLong → Told due status.RunTooLong old new
+  pub write_fault : result ≡ status.WriteFault → Rose before now × AppendsSome old new due.text
+  pub no_memory : result ≡ status.NoMemory → AppendsSome old new due.text
+  pub no_usage : result ≢ status.Usage
+  pub no_read_fault : result ≢ status.ReadFault
+  pub no_long_input : result ≢ status.InputTooLong
+  pub later : before ≤ now
+  pub kept : result ≢ status.WriteFault → now ≡ before
+
+-- the status of the process
+abbrev pub exit_status : Status → ℕ
+exit_status status.Done = 0
+exit_status status.InputRefused = 1
+exit_status status.Usage = 2
+exit_status status.ReadFault = 3
+exit_status status.WriteFault = 4
+exit_status status.NoMemory = 5
+exit_status status.InputTooLong = 6
+exit_status status.TurnRefused = 7
+exit_status status.RunTooLong = 9
+
+-- there is a plan, or a scene, and this holds of it
+abbrev pub HasPlan : Option Plan → (Plan → Type 0) → Type 0
+HasPlan None holds = ⊥
+HasPlan (Some plan) holds = holds plan
+
+abbrev pub HasScene : Result SceneValue SceneFault → (SceneValue → Type 0) → Type 0
+HasScene (Err fault) holds = ⊥
+HasScene (Ok scene) holds = holds scene
+
+-- a front of what is due was appended
+abbrev pub AppendsSomeDue : Option Plan → Option (List ℕ) → (old new : Option (List ℕ)) → Type 0
+AppendsSomeDue None input old new = AppendsSome old new usage_text
+AppendsSomeDue (Some plan) None old new = ⊤
+AppendsSomeDue (Some plan) (Some input) old new = AppendsSome old new (due plan input).text
+
+-- a command whose input is within the limit gets what is due, unless a read or a write failed or memory was wanted
+abbrev pub GetsDue : Option Plan → Option (List ℕ) → ℕ → Status → Type 0
+GetsDue None input limit result = ⊤
+GetsDue (Some plan) None limit result = ⊤
+GetsDue (Some plan) (Some input) limit result = length input ≤ limit → result ≢ status.ReadFault → result ≢ status.WriteFault → result ≢ status.NoMemory
+    → result ≡ (due plan input).status

@@ -1,0 +1,16 @@
+-- What the program writes besides reports.
+use Rattle.std.specs.Prelude.{ℕ, List, ◌++◌, codes, decimal}
+use Rattle.scene_reader.specs.declared.fault.SceneFault.{SceneFault}
+use Rattle.scene_reader.specs.Kinds.{kind_text}
+
+unfoldable pub usage_text : List ℕ
+usage_text = codes "usage: trusty COMMAND [--form FORM]\n"
+
+unfoldable pub fault_text : SceneFault → List ℕ
+fault_text fault = codes "refused line " ++ decimal fault.line ++ codes ": " ++ kind_text fault.kind ++ codes "\n"
+
+unfoldable pub turn_text : ℕ → List ℕ
+turn_text k = codes "turn " ++ decimal k ++ codes " refused\n"
+
+unfoldable pub too_long_text : List ℕ
+too_long_text = codes "run too long\n"
