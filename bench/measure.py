@@ -20,7 +20,9 @@ KINDS = [
     ("reading", 2_000_000, "summary"),
     ("printing", 50_000, "history"),
     ("messages", 500, "summary"),
-    ("members", 30, "summary"),
+    ("members", 8, "summary"),
+    ("members", 32, "summary"),
+    ("actors", 8, "summary"),
     ("actors", 64, "summary"),
 ]
 

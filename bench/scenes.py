@@ -4,7 +4,7 @@
   scenes.py reading N      about N bytes of lines, most of them long `mwrite` lines of hexadecimal bytes
   scenes.py printing N     a run of about N entries: waits that time out
   scenes.py messages N     N requests and replies between two applications
-  scenes.py members N      one set with N members, of which the last has the event, waited on 200 times
+  scenes.py members N      one set with N members (at most 64), of which the last has the event, waited on 200 times
   scenes.py actors N       N threads that each make 50 sets and close them
   scenes.py empty 0        no application
 """
@@ -43,11 +43,18 @@ def messages(rounds):
 
 
 def members(count):
-    # a set and its members; a table has 64 numbers, so the members are duplicates of one end
+    # A set whose last member alone has the event. A table has 64 numbers, so the members are duplicates of one end, and
+    # all 64 numbers are labels only where the set's own number becomes one as well: its set then goes by another.
     lines = ["scene 1", "app one", "thread", "port com.example.bench 2 64 ta as p", "connect com.example.bench async as c"]
     lines += ["accept $p as d", "send $c text:x", "set as s"]
-    lines += ["dup $p as e", "add $s $e 8 0"] * (count - 1) + ["dup $d as e", "add $s $e 8 0"]
-    return lines + ["repeat 200", "wait $s 0", "end"]
+    quiet = ["add $s $p 0 0", "add $s $c 8 0", "add $s $d 0 0"][: count - 1]
+    quiet += ["dup $c as e", "add $s $e 8 0"] * min(count - 1 - len(quiet), 60)
+    named = "$s"
+    loud = ["dup $d as e", "add $s $e 8 0"]
+    if count == 64:
+        named = "$t"
+        loud = ["close $e", "dup $s as t", "close $s", "dup $d as e", "add $t $e 8 0"]
+    return lines + quiet + loud + ["repeat 200", "wait %s 0" % named, "end"]
 
 
 def actors(count):
