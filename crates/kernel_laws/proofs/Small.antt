@@ -11,7 +11,7 @@ use Rattle.kernel_values.specs.declared.state.State.{State}
 use Rattle.kernel_types.specs.History.{Legal, entry_of, next_state, state_after, state_or}
 use Rattle.kernel_types.specs.Opening.{opening}
 use Rattle.kernel_types.specs.Step.{Stepped, step}
-use Rattle.kernel_laws.specs.Limits.{FitsIn, Room, room_of, IsBodyWithin, IsSmallAnswer, IsWithinLimits}
+use Rattle.kernel_types.specs.Limits.{FitsIn, Room, room_of, IsBodyWithin, IsSmallAnswer, IsWithinLimits}
 use Rattle.kernel_laws.proofs.Within.{WithinCore}
 use Rattle.kernel_laws.proofs.WithinSteps.{StepFine, step_fine}
 

@@ -17,7 +17,7 @@ use Rattle.kernel_values.specs.declared.state.HandleSet.{HandleSet}
 use Rattle.kernel_values.specs.declared.state.CoreState.{CoreState}
 use Rattle.kernel_types.specs.Objects.{set_if, map_at, as_end, as_memory, as_set, set_in, set_of, end_of, memory_of, object_of, end_in, port_in, memory_in, on_body, on_port, on_end, on_set, on_memory, changed}
 use Rattle.kernel_types.specs.Outcome.{Outcome, gives, gives_with, refuses}
-use Rattle.kernel_laws.specs.Limits.{IsBodyWithin, IsEndWithin, IsPortWithin, IsSmallAnswer, bytes_of_reply, handles_of_reply, FitsIn, Room, full_room, listed_in_reply, no_room}
+use Rattle.kernel_types.specs.Limits.{IsBodyWithin, IsEndWithin, IsPortWithin, IsSmallAnswer, bytes_of_reply, handles_of_reply, FitsIn, Room, full_room, listed_in_reply, no_room}
 use Rattle.kernel_laws.proofs.Found.{changed_cons, found_is}
 
 abbrev pub Within : List Object → Type 0

@@ -16,7 +16,7 @@ use Rattle.kernel_types.specs.Outcome.{refuses, retired_seq, gives_with, sent_se
 use Rattle.std.specs.List.{position_or_len}
 use Rattle.std.proofs.lemmas.List.{length-map}
 use Rattle.std.proofs.lemmas.List.Elements.{All-from_recursion, recursion_from_All, All-filter, All-push}
-use Rattle.kernel_laws.specs.Limits.{full_room, IsEndWithin, IsMessageWithin}
+use Rattle.kernel_types.specs.Limits.{full_room, IsEndWithin, IsMessageWithin}
 use Rattle.kernel_laws.proofs.Within.{FineIn, lists, refused_in, refused_unless_in, WithinCore, Fine, given, refused, fine_if, refused_unless, end_within, within_changed, keeps_end, end_changed_within, all_find, all_map_at}
 use Rattle.kernel_laws.proofs.WithinOthers.{length_kept, length_map_at}
 

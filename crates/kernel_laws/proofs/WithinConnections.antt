@@ -33,7 +33,7 @@ use Rattle.kernel_types.specs.Outcome.{Outcome, gives, refuses, no_seqs}
 use Rattle.kernel_types.specs.Threads.{waits_on}
 use Rattle.kernel_types.specs.Reports.{Reported, report_of}
 use Rattle.kernel_types.specs.Waits.{end_of_wait, end_by_kind, end_by_report, is_due}
-use Rattle.kernel_laws.specs.Limits.{Room, no_room, IsEndWithin, IsPortWithin, IsBodyWithin, IsMessageWithin}
+use Rattle.kernel_types.specs.Limits.{Room, no_room, IsEndWithin, IsPortWithin, IsBodyWithin, IsMessageWithin}
 use Rattle.kernel_laws.proofs.Starts.{same_started}
 use Rattle.kernel_laws.proofs.Within.{FineIn, Within, WithinCore, Fine, given, refused, fine_if, refused_unless, within_changed, within_mapped, within_appended, keeps_end, keeps_port, all_find, port_in_within}
 use Rattle.kernel_laws.proofs.WithinOthers.{within_same, one_handle, waiting_fine, ReportsWithin, report_within, event_fine}

@@ -32,7 +32,7 @@ use Rattle.kernel_types.specs.Outcome.{refuses, gives, no_seqs}
 use Rattle.std.specs.List.{filter, position_or_len}
 use Rattle.std.specs.Option.{option_map}
 use Rattle.std.proofs.lemmas.List.Sums.{length-filter, count_by-le-length}
-use Rattle.kernel_laws.specs.Limits.{full_room}
+use Rattle.kernel_types.specs.Limits.{full_room}
 use Rattle.kernel_laws.proofs.Starts.{same_ended}
 use Rattle.kernel_laws.proofs.Within.{FineIn, lists, refused_in, Within, WithinCore, Fine, given, refused, fine_if, refused_unless, memory_within, within_changed, within_appended, keeps_set, keeps_end, set_changed_within, memory_changed_within}
 

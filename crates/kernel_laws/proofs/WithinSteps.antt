@@ -22,7 +22,7 @@ use Rattle.kernel_types.specs.Reach.{is_in}
 use Rattle.kernel_types.specs.Sweep.{reached, pruned, pruned_port, kept, cut_end, sweep, is_live, is_marked}
 use Rattle.kernel_types.specs.Waits.{end_of_wait}
 use Rattle.kernel_types.specs.Step.{Stepped, act, swept, begin_as, begin_of, core_begin, resumed, resume_as, resume_of, core_resume, least_deadline, core_idle, idle, idle_lawful, in_world, is_built_event, full_step, step, idle_answer}
-use Rattle.kernel_laws.specs.Limits.{FitsIn, Room, no_room, room_of, room_of_call, IsEndWithin, IsSmallAnswer}
+use Rattle.kernel_types.specs.Limits.{FitsIn, Room, no_room, room_of, room_of_call, IsEndWithin, IsSmallAnswer}
 use Rattle.kernel_laws.proofs.Within.{Within, WithinCore, within_mapped, within_filtered, keeps_end, keeps_port}
 use Rattle.kernel_laws.proofs.WithinOthers.{cookie_fine, close_fine, dup_fine, set_fine, add_fine, del_fine, mod_fine, memref_fine, mread_fine, mwrite_fine, wait_fine, wait_any_fine, exit_fine, finish_fine}
 use Rattle.kernel_laws.proofs.WithinChannels.{send_fine, get_fine, read_fine, put_fine}

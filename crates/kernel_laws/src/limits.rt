@@ -9,7 +9,7 @@ ghost use Rattle.kernel_values.specs.declared.state.State.{State};
 ghost use Rattle.kernel_types.specs.History.{Legal, state_after};
 ghost use Rattle.kernel_types.specs.Opening.{opening};
 ghost use Rattle.kernel_types.specs.Step.{Stepped, step};
-ghost use Rattle.kernel_laws.specs.Limits.{IsWithinLimits, IsSmallAnswer, FitsIn, room_of};
+ghost use Rattle.kernel_types.specs.Limits.{IsWithinLimits, IsSmallAnswer, FitsIn, room_of};
 
 /// Every opening state is within the limits: it has no objects.
 pub fn openings_are_within_limits()

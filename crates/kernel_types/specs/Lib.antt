@@ -6,6 +6,7 @@ pub mod Facts
 pub mod Handles
 pub mod History
 pub mod Kernel
+pub mod Limits
 pub mod Memories
 pub mod Messages
 pub mod Names

@@ -4,6 +4,7 @@ ghost use Rattle.std.specs.Prelude.{◌≡◌, ◌≢◌, ◌<◌, ℕ, Some, le
 ghost use Rattle.kernel_values.specs.declared.state.State.{State};
 ghost use Rattle.kernel_values.specs.declared.entry.Event.{Event};
 ghost use Rattle.kernel_types.specs.Kernel.{Did, Refused};
+ghost use Rattle.kernel_types.specs.Limits.{FitsIn, room_of};
 ghost use Rattle.kernel_types.specs.Step.{statuses, idle_lawful, device_has_work, movable};
 ghost use Rattle.kernel_types.specs.Facts.{status_at, is_client, names_at, events_at, end_facts, is_at_end};
 
@@ -38,10 +39,12 @@ pub trait IpcKernel {
     /// The events that are never refused for want of memory.
     ghost spares: { Self → Event → Type 0 };
 
-    /// Makes the step of a lawful event. Refused, the event comes back and all stands as before.
+    /// Makes the step of a lawful event. Refused, the event comes back and all stands as before. The
+    /// answer lists at most 65,536 bytes and 8 handles, and nothing where the call is no reading one.
     fn step(&mut self, event: Event) -> Result<Entry, StepRefused>
         ensures done { IfOk result (λ entry. Did event (state self.old) (state self.new) (made self.old) (made self.new) entry) }
         ensures refused { IfErr result (λ refused. Refused event (state self.old) (state self.new) (made self.old) (made self.new) refused) }
+        ensures fits { IfOk result (λ entry. FitsIn (room_of event) entry.answer) }
         ensures spared { IfErr result (λ refused. spares self.old event → refused.cause ≢ StepCause.NoMemory) };
 
     /// What an actor of the scene does.
