@@ -6,3 +6,10 @@ pub mod Walk
 pub mod Deepening
 pub mod Circles
 pub mod Looking
+pub mod Lists
+pub mod Naming
+pub mod NamingCalls
+pub mod NamingWaits
+pub mod NamingConnections
+pub mod NamingSteps
+pub mod Soundness
