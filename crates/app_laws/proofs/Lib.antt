@@ -1,0 +1,4 @@
+pub mod Settling
+pub mod Calls
+pub mod Steps
+pub mod Histories
