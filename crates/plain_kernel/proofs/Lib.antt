@@ -1,3 +1,4 @@
 pub mod Descending
 pub mod Numbers
+pub mod Orders
 pub mod Waiting

@@ -1,4 +1,5 @@
 pub mod Counting
+pub mod Orderly
 pub mod Ready
 pub mod Reported
 pub mod Shown

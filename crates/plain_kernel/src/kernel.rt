@@ -25,7 +25,8 @@ use kernel_values::{
 use std::alloc::Global;
 use std::marker::Model;
 
-/// A state of the model with what is told of it, and the number of steps made.
+/// A state of the model with what is told of it, and the number of steps made. Its objects are within
+/// their limits, what is named was given, no set contains itself, and chains of sets have at most 8.
 #[derive(Debug, Drop)]
 pub struct PlainKernel {
     core: CoreState,
@@ -38,6 +39,7 @@ pub struct PlainKernel {
 
 impl Model for PlainKernel {
     ghost use Rattle.std.specs.Prelude.{◌≡◌};
+    ghost use Rattle.plain_kernel.specs.Orderly.{IsOrderly};
     ghost use Rattle.plain_kernel.specs.Standing.{Standing};
     ghost use Rattle.plain_kernel.specs.Steps.{whole};
     ghost use Rattle.kernel_types.specs.Names.{naming};
@@ -48,7 +50,7 @@ impl Model for PlainKernel {
 
     ghost view = { λ k. record { state = whole k.core k.world; made = k.made } };
 
-    ghost invariant = { λ k. (k.names ≡ naming k.core) × (k.facts ≡ facts_of k.core) × (k.actors ≡ statuses (whole k.core k.world)) };
+    ghost invariant = { λ k. (k.names ≡ naming k.core) × (k.facts ≡ facts_of k.core) × (k.actors ≡ statuses (whole k.core k.world)) × IsOrderly (whole k.core k.world) };
 }
 
 /// A state after a step, with what is told of it and of the step.
