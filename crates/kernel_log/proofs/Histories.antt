@@ -1,8 +1,10 @@
 -- One more entry at the end of a history.
-use Rattle.std.proofs.Common.{◌≡◌, ℕ, ◌+◌, List, [], ◌∷◌, ◌++◌, Some, refl, ap, sym, subst, length, ◌∙◌, arith, length-append}
+use Rattle.std.proofs.Common.{◌≡◌, ℕ, ◌+◌, List, [], ◌∷◌, ◌++◌, Some, refl, ap, sym, subst, length, ◌∙◌, arith, length-append, slice_get}
+use Rattle.std.specs.Option.{option_map}
 use Rattle.kernel_values.specs.declared.entry.Event.{Event}
 use Rattle.kernel_values.specs.declared.entry.Entry.{Entry}
 use Rattle.kernel_values.specs.declared.entry.EndFacts.{EndFacts}
+use Rattle.kernel_values.specs.declared.reply.Answer.{Answer}
 use Rattle.kernel_values.specs.declared.state.State.{State}
 use Rattle.kernel_values.specs.Origin.{Origin}
 use Rattle.kernel_types.specs.Facts.{end_facts}
@@ -57,3 +59,12 @@ pub sound_same : (log same : Log) (s t : State) (made remade : ℕ) → Sound lo
 sound_same log same s t made remade sound state count o_is entries_are facts_are =
     sound_parts same t remade log.origin log.journal.entries log.journal.facts o_is entries_are facts_are
     sound.legal sound.facts_are (state ∙ sound.state_is) (count ∙ sound.made_is)
+
+last_there : (entries : List Entry) (entry : Entry) → slice_get (entries ++ entry ∷ []) (length entries) ≡ Some entry
+last_there [] entry = refl
+last_there (first ∷ entries) entry = last_there entries entry
+
+-- the answer of the entry that was written last
+pub last_answer : (entries longer : List Entry) (entry : Entry) (place : ℕ) (answer : Answer) → longer ≡ entries ++ entry ∷ [] → place ≡ length entries
+    → answer ≡ entry.answer → option_map (λ e. e.answer) (slice_get longer place) ≡ Some answer
+last_answer entries longer entry place answer longer_is place_is answer_is = rw (longer_is, place_is, answer_is, last_there entries entry) refl

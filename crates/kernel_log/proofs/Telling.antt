@@ -1,9 +1,13 @@
 -- The numbers of an end's messages, one entry further; and a story told in its three lists.
-use Rattle.std.proofs.Common.{◌≡◌, ℕ, ◌+◌, ◌<◌, List, [], ◌∷◌, ◌++◌, take, ap, sym, refl, ◌∙◌, Some, None, get_or, length, append-nil}
+use Rattle.std.proofs.Common.{◌≡◌, ℕ, ◌+◌, ◌<◌, List, [], ◌∷◌, ◌++◌, take, ap, sym, subst, refl, ◌∙◌, Some, None, get_or, length, append-nil}
 use Rattle.std.proofs.lemmas.List.{take_more}
 use Rattle.std.proofs.lemmas.List.Elements.{filter_map-append}
 use Rattle.kernel_values.specs.declared.entry.Entry.{Entry}
-use Rattle.kernel_types.specs.Stories.{story_of, number_at}
+use Rattle.kernel_values.specs.SceneLaw.{SceneValue}
+use Rattle.kernel_types.specs.History.{Legal}
+use Rattle.kernel_types.specs.Opening.{opening}
+use Rattle.kernel_types.specs.Stories.{IsInOrder, Story, story_of, number_at}
+use Rattle.kernel_laws.proofs.Orders.{stories_in_order}
 use Rattle.kernel_log.specs.declared.stories.Move.{Move}
 use Rattle.kernel_log.specs.declared.stories.Move.TheVariants.{Send, Opening, Retirement}
 use Rattle.kernel_log.specs.Moves.{moved, numbers_of}
@@ -30,3 +34,9 @@ pub story_is : (entries : List Entry) (end : ℕ) (sent opened retired : List �
     → retired ≡ numbers_of Retirement end entries → record { sent = sent; opened = opened; retired = retired } ≡ story_of entries end
 unfolding story_of
 story_is entries end sent opened retired sent_is opened_is retired_is = rw (sent_is, opened_is, retired_is) refl
+
+pub story_in_order : (entries : List Entry) (end : ℕ) (sent opened retired : List ℕ) → sent ≡ numbers_of Send end entries → opened ≡ numbers_of Opening end entries
+    → retired ≡ numbers_of Retirement end entries → (scene : SceneValue) → Legal (opening scene) entries
+    → IsInOrder (record { sent = sent; opened = opened; retired = retired })
+story_in_order entries end sent opened retired sent_is opened_is retired_is scene legal =
+    subst (λ (story : Story). IsInOrder story) (sym (story_is entries end sent opened retired sent_is opened_is retired_is)) (stories_in_order scene entries end legal)

@@ -4,6 +4,7 @@
 
 pub mod journal;
 pub mod logged;
+mod spare;
 pub mod stories;
 #[cfg(test)]
 mod tests;

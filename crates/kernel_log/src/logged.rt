@@ -1,11 +1,14 @@
 //! A kernel with the journal of all its steps.
 
-ghost use Rattle.std.specs.Prelude.{◌≡◌, ◌≤◌, ◌+◌, [], length, slice_get, option_copied, IfOk, IfErr, OnOk, IsOk};
+ghost use Rattle.std.specs.Prelude.{◌≡◌, ◌≤◌, ◌+◌, [], length, slice_get, option_copied, Some, IfOk, IfErr, OnOk, IsOk};
 ghost use Rattle.std.specs.Option.{option_map};
 ghost use Rattle.kernel_types.specs.History.{Legal};
+ghost use Rattle.kernel_types.specs.Limits.{room_of};
 ghost use Rattle.kernel_log.specs.Logs.{facts_along, state_of, made_by, Wrote, Kept};
+ghost use Rattle.kernel_log.specs.Spares.{Holds};
 
 use crate::journal::Journal;
+use crate::spare::Spare;
 use kernel_types::values::{Answer, Event, NoMemory, Recorded};
 use kernel_types::{IpcKernel, StepCause, StepRefused};
 use std::alloc::Global;
@@ -19,6 +22,7 @@ pub struct Logged<K: IpcKernel + Drop> {
     kernel: K,
     journal: Journal,
     opened: Snapshot<K>,
+    alloc: Global,
 }
 
 impl<K: IpcKernel + Drop> Model for Logged<K> {
@@ -38,11 +42,13 @@ impl<K: IpcKernel + Drop> Model for Logged<K> {
     }) (K.state l.kernel) (K.made l.kernel) };
 }
 
-/// Where a step was written.
-#[derive(Clone, Copy, PartialEq, Eq, Debug)]
+/// Where a step was written, and what it answered.
+#[derive(Debug, Drop)]
 pub struct Receipt {
     /// The place of the step's entry in the journal, counted from 0.
     pub place: u64,
+    /// A copy of the entry's answer.
+    pub answer: Answer,
 }
 
 impl<K: IpcKernel + Drop> Logged<K> {
@@ -59,6 +65,7 @@ impl<K: IpcKernel + Drop> Logged<K> {
             kernel,
             journal: Journal::new(alloc),
             opened,
+            alloc,
         }
     }
 
@@ -85,6 +92,7 @@ impl<K: IpcKernel + Drop> Logged<K> {
             kernel,
             journal: _,
             opened: _,
+            alloc: _,
         } = self;
         kernel
     }
@@ -120,29 +128,44 @@ impl<K: IpcKernel + Drop> Logged<K> {
         self.journal.reserve(n)
     }
 
-    /// Makes a step of the kernel and writes its entry. The entry's place is reserved first, so that
-    /// after the kernel's step nothing is refused. Refused, the event comes back and all stands as
-    /// before.
-    #[tactic(auto, using(crate::proofs::Histories::sound_more, crate::proofs::Histories::sound_same))]
+    /// Makes a step of the kernel and writes its entry. The entry's place and the room for a copy of
+    /// the answer are taken first, so that after the kernel's step nothing is refused. Refused, the
+    /// event comes back and all stands as before.
+    #[tactic(auto, using(crate::proofs::Histories::sound_more, crate::proofs::Histories::sound_same, crate::proofs::Histories::last_answer))]
     pub fn step(&mut self, event: Event) -> Result<Receipt, StepRefused>
         ensures ok { IfOk result (λ receipt. Wrote event self.old self.new receipt.place) }
+        ensures answer { IfOk result (λ receipt. option_map (λ entry. entry.answer) (slice_get self.new.journal.entries receipt.place) ≡ Some receipt.answer) }
         ensures err { IfErr result (λ refused. Kept event self.old self.new refused) }
     {
-        if self.journal.reserve(1).is_err() {
+        let Ok(spare) = self.spare_for(&event) else {
             return Err(StepRefused {
                 event,
                 cause: StepCause::NoMemory,
             });
-        }
+        };
         let place = self.journal.len();
         match self.kernel.step(event) {
             Ok(entry) => {
+                let answer = spare.copy(&entry.answer);
                 let facts = self.kernel.end_facts();
                 self.journal.push(entry, facts);
-                Ok(Receipt { place })
+                Ok(Receipt { place, answer })
             }
             Err(refused) => Err(refused),
         }
+    }
+
+    // A place in the journal, and room for a copy of what the event's step answers.
+    fn spare_for(&mut self, event: &Event) -> Result<Spare, NoMemory>
+        ensures origin { self.new.origin ≡ self.old.origin }
+        ensures entries { self.new.journal.entries ≡ self.old.journal.entries }
+        ensures facts { self.new.journal.facts ≡ self.old.journal.facts }
+        ensures room { self.old.journal.room ≤ self.new.journal.room }
+        ensures place { OnOk result (1 ≤ self.new.journal.room) }
+        ensures spare { IfOk result (λ spare. Holds spare (room_of event.now)) }
+    {
+        self.journal.reserve(1)?;
+        Spare::for_step(self.alloc, event)
     }
 }
 

@@ -1,7 +1,10 @@
 //! What happened to the messages of one end.
 
 ghost use Rattle.std.specs.Prelude.{◌≡◌, IfOk};
-ghost use Rattle.kernel_types.specs.Stories.{story_of, number_at};
+ghost use Rattle.kernel_values.specs.SceneLaw.{SceneValue};
+ghost use Rattle.kernel_types.specs.History.{Legal};
+ghost use Rattle.kernel_types.specs.Opening.{opening};
+ghost use Rattle.kernel_types.specs.Stories.{story_of, number_at, IsInOrder};
 ghost use Rattle.kernel_log.specs.Moves.{moved, numbers_of, story_told};
 
 use crate::journal::Journal;
@@ -28,10 +31,13 @@ enum Move {
     Retirement,
 }
 
-/// The story of the end in the journal.
+/// The story of the end in the journal. Where the journal is a history from an opening state, the story is in order: messages
+/// are sent and opened by the numbers 0, 1, 2, and so on, none is opened before it was sent, and each is retired once at most,
+/// after it was opened.
 #[tactic(auto, using(crate::proofs::Telling::story_is))]
 pub fn story(alloc: Global, journal: &Journal, end: ObjId) -> Result<EndStory, NoMemory>
-    ensures { IfOk result (λ story. story_told story ≡ story_of journal.now.entries end.0) }
+    ensures story { IfOk result (λ story. story_told story ≡ story_of journal.now.entries end.0) }
+    ensures in_order { (scene : SceneValue) → Legal (opening scene) journal.now.entries → IfOk result (λ story. IsInOrder (story_told story)) }
 {
     let entries = journal.entries();
     Ok(EndStory {
