@@ -1,6 +1,15 @@
+pub mod CallsFixed
 pub mod Counting
 pub mod Ends
+pub mod EntriesFixed
+pub mod Fixing
+pub mod HistoriesFixed
+pub mod Lawful
+pub mod NamesApart
 pub mod Naming
 pub mod OwnCalls
 pub mod Printed
+pub mod Scripted
 pub mod Spelling
+pub mod TypesKept
+pub mod WordsRead

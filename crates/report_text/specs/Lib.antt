@@ -1,8 +1,11 @@
 pub mod Answers
 pub mod Calls
 pub mod Forms
+pub mod Histories
 pub mod Lines
 pub mod Names
 pub mod OwnCalls
+pub mod Plain
 pub mod Printing
 pub mod Tallies
+pub mod Within

@@ -2,6 +2,7 @@
 
 ghost use Rattle.std.specs.Prelude.{◌≡◌, ◌++◌, ◌∷◌, OnOk};
 ghost use Rattle.report_text.specs.Lines.{blank, spelled};
+ghost use Rattle.report_text.specs.Within.{AreNumbers, numbers_of_timeout, IsCallWithin};
 ghost use Rattle.report_text.specs.Calls.{port_flags_word, connect_flags_word, memory_flags_word, timeout_word, call_words};
 
 use crate::line::Line;
@@ -39,7 +40,8 @@ fn memory_flags_word(flags: MemFlags) -> &'static str
 }
 
 fn write_timeout(line: &mut Line, timeout: Timeout) -> Result<(), NoMemory>
-    ensures { OnOk result (line.new ≡ line.old ++ blank ∷ timeout_word timeout) }
+    ensures told { OnOk result (line.new ≡ line.old ++ blank ∷ timeout_word timeout) }
+    ensures within { AreNumbers (numbers_of_timeout timeout) }
 {
     match timeout {
         Timeout::Forever => line.word("-1"),
@@ -50,7 +52,8 @@ fn write_timeout(line: &mut Line, timeout: Timeout) -> Result<(), NoMemory>
 /// Writes the words of the call: those of its script line, with numbers for its registers.
 #[tactic(auto, unfolding(crate::specs::Calls::call_words))]
 pub fn write_call(line: &mut Line, call: &Call) -> Result<(), NoMemory>
-    ensures { OnOk result (line.new ≡ line.old ++ spelled (call_words call.now)) }
+    ensures told { OnOk result (line.new ≡ line.old ++ spelled (call_words call.now)) }
+    ensures within { OnOk result (IsCallWithin call.now) }
 {
     match call {
         Call::PortCreate {

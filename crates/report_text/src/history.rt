@@ -5,6 +5,7 @@ ghost use Rattle.report_text.specs.Printing.{Prints};
 ghost use Rattle.report_text.specs.Lines.{blank, lined, spelled, text_of};
 ghost use Rattle.report_text.specs.Names.{name_in};
 ghost use Rattle.report_text.specs.Forms.{event_words, entry_words, entry_lines, history_lines};
+ghost use Rattle.report_text.specs.Within.{IsEventWithin, AreWithin};
 
 use crate::answers::write_answer;
 use crate::calls::write_call;
@@ -24,7 +25,8 @@ fn write_name(line: &mut Line, names: &NameList, actor: ActorId) -> Result<(), N
 }
 
 fn write_event(line: &mut Line, names: &NameList, event: &Event) -> Result<(), NoMemory>
-    ensures { OnOk result (line.new ≡ line.old ++ spelled (event_words names.now event.now)) }
+    ensures told { OnOk result (line.new ≡ line.old ++ spelled (event_words names.now event.now)) }
+    ensures within { OnOk result (IsEventWithin event.now) }
 {
     match event {
         Event::Begin { actor, call, .. } => {
@@ -42,7 +44,8 @@ fn write_event(line: &mut Line, names: &NameList, event: &Event) -> Result<(), N
 
 #[tactic(auto, unfolding(crate::specs::Forms::entry_words))]
 fn write_entry(line: &mut Line, names: &NameList, k: u64, entry: &Entry) -> Result<(), NoMemory>
-    ensures { OnOk result (line.new ≡ line.old ++ spelled (entry_words names.now k entry.now)) }
+    ensures told { OnOk result (line.new ≡ line.old ++ spelled (entry_words names.now k entry.now)) }
+    ensures within { OnOk result (IsEventWithin entry.now.event) }
 {
     line.number(k)?;
     write_event(line, names, &entry.event)?;
@@ -57,7 +60,8 @@ fn print_entry<K: Sink>(
     entry: &Entry,
     sink: &mut K,
 ) -> Result<(), PrintRefused>
-    ensures { Prints (K.written sink.old) (K.written sink.new) (K.faults sink.old) (K.faults sink.new) result (lined (entry_words names.now k entry.now)) }
+    ensures prints { Prints (K.written sink.old) (K.written sink.new) (K.faults sink.old) (K.faults sink.new) result (lined (entry_words names.now k entry.now)) }
+    ensures within { OnOk result (IsEventWithin entry.now.event) }
 {
     line.clear();
     write_entry(line, names, k, entry)?;
@@ -70,7 +74,8 @@ fn print_entries<K: Sink>(
     entries: &[Entry],
     sink: &mut K,
 ) -> Result<(), PrintRefused>
-    ensures { Prints (K.written sink.old) (K.written sink.new) (K.faults sink.old) (K.faults sink.new) result (text_of (entry_lines names.now 0 entries.now)) }
+    ensures prints { Prints (K.written sink.old) (K.written sink.new) (K.faults sink.old) (K.faults sink.new) result (text_of (entry_lines names.now 0 entries.now)) }
+    ensures within { OnOk result (AreWithin entries.now) }
 {
     for k in 0..entries.len() {
         print_entry(line, names, k as u64, &entries[k], sink)?;
@@ -105,7 +110,8 @@ pub fn print_history<K: Sink>(
     entries: &[Entry],
     sink: &mut K,
 ) -> Result<(), PrintRefused>
-    ensures { Prints (K.written sink.old) (K.written sink.new) (K.faults sink.old) (K.faults sink.new) result (text_of (history_lines names.now entries.now)) }
+    ensures prints { Prints (K.written sink.old) (K.written sink.new) (K.faults sink.old) (K.faults sink.new) result (text_of (history_lines names.now entries.now)) }
+    ensures within { OnOk result (AreWithin entries.now) }
 {
     print_head(line, "history", entries.len() as u64, sink)?;
     print_entries(line, names, entries, sink)

@@ -8,6 +8,7 @@ mod calls;
 mod counts;
 mod form;
 mod history;
+pub mod laws;
 mod line;
 mod names;
 mod print;

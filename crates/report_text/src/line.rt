@@ -1,8 +1,10 @@
-//! A line of a report while its words are written, and the words that need more than their bytes.
+//! A line of a report while its words are written, and the words that need more than their bytes. What is
+//! written was read, and so is within its type: the clauses `within` say it to the callers' proofs.
 
-ghost use Rattle.std.specs.Prelude.{◌≡◌, ◌++◌, ◌∷◌, [], OnOk, map, decimal, drop};
+ghost use Rattle.std.specs.Prelude.{◌≡◌, ◌++◌, ◌∷◌, [], OnOk, map, decimal, drop, ◌<◌, ◌^◌};
 ghost use Rattle.report_text.specs.Lines.{blank, line_end, spelled, named, hex_word, uuid_word, handle_words, behind_first};
 ghost use Rattle.report_text.specs.Printing.{Prints};
+ghost use Rattle.report_text.specs.Within.{AreNumbers, AreBytes};
 
 use crate::refused::PrintRefused;
 use hex::encode;
@@ -76,7 +78,8 @@ impl Line {
 
     /// A number in decimal.
     pub fn number(&mut self, number: u64) -> Result<(), NoMemory>
-        ensures { OnOk result (self.new ≡ self.old ++ blank ∷ decimal number) }
+        ensures told { OnOk result (self.new ≡ self.old ++ blank ∷ decimal number) }
+        ensures within { number < 2 ^ 64 }
     {
         let mut buffer = Buffer::new();
         self.word(buffer.format(number))
@@ -92,7 +95,8 @@ impl Line {
 
     /// A word, and the numbers that follow it.
     pub fn numbers(&mut self, word: &str, numbers: &[u32]) -> Result<(), NoMemory>
-        ensures { OnOk result (self.new ≡ self.old ++ spelled (word.now ∷ map decimal numbers.now)) }
+        ensures told { OnOk result (self.new ≡ self.old ++ spelled (word.now ∷ map decimal numbers.now)) }
+        ensures within { AreNumbers numbers.now }
     {
         self.word(word)?;
         for number in numbers {
@@ -103,7 +107,8 @@ impl Line {
 
     /// Handles behind the word that leads them, which is left out where there are none.
     pub fn handles(&mut self, leader: &str, handles: &[u32]) -> Result<(), NoMemory>
-        ensures { OnOk result (self.new ≡ self.old ++ spelled (handle_words leader.now handles.now)) }
+        ensures told { OnOk result (self.new ≡ self.old ++ spelled (handle_words leader.now handles.now)) }
+        ensures within { AreNumbers handles.now }
     {
         if handles.is_empty() {
             return Ok(());
@@ -113,7 +118,8 @@ impl Line {
 
     /// Bytes as lower-case hexadecimal digits; a dash where there are none.
     pub fn hex(&mut self, bytes: &[u8]) -> Result<(), NoMemory>
-        ensures { OnOk result (self.new ≡ self.old ++ blank ∷ hex_word bytes.now) }
+        ensures told { OnOk result (self.new ≡ self.old ++ blank ∷ hex_word bytes.now) }
+        ensures within { AreBytes bytes.now }
     {
         if bytes.is_empty() {
             return self.word("-");

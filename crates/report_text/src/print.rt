@@ -4,6 +4,9 @@ ghost use Rattle.std.specs.Prelude.{◌≡◌, ◌++◌, OnOk};
 ghost use Rattle.report_text.specs.Printing.{Prints};
 ghost use Rattle.report_text.specs.Lines.{text_of, lined, spelled};
 ghost use Rattle.report_text.specs.Forms.{end_words, report_told, body_lines};
+ghost use Rattle.report_text.specs.Histories.{TellsOnly};
+ghost use Rattle.report_text.specs.Within.{AreWithin};
+ghost use Rattle.report_text.specs.declared.form.Form.TheVariants.{History};
 
 use crate::actors::print_actors;
 use crate::counts::print_counts;
@@ -42,7 +45,8 @@ fn print_body<K: Sink>(
     form: Form,
     sink: &mut K,
 ) -> Result<(), PrintRefused>
-    ensures { Prints (K.written sink.old) (K.written sink.new) (K.faults sink.old) (K.faults sink.new) result (text_of (body_lines names.now journal.now.entries journal.now.facts form)) }
+    ensures prints { Prints (K.written sink.old) (K.written sink.new) (K.faults sink.old) (K.faults sink.new) result (text_of (body_lines names.now journal.now.entries journal.now.facts form)) }
+    ensures within { form ≡ History → OnOk result (AreWithin journal.now.entries) }
 {
     match form {
         Form::History => print_history(line, names, journal.entries(), sink),
@@ -54,7 +58,8 @@ fn print_body<K: Sink>(
 
 /// Writes the report of the journal's entries in this form, with the journal's facts after each of them and
 /// the facts at the end. Each line is one call of `write_all`, and no more than one is held at a time.
-/// Refused, a front of the report was written, but not all of it.
+/// Refused, a front of the report was written, but not all of it. In the history form the report tells the
+/// history: no other one of the scene has it.
 pub fn print_report<K: Sink>(
     alloc: Global,
     scene: &Scene,
@@ -63,8 +68,11 @@ pub fn print_report<K: Sink>(
     form: Form,
     sink: &mut K,
 ) -> Result<(), PrintRefused>
-    ensures { Prints (K.written sink.old) (K.written sink.new) (K.faults sink.old) (K.faults sink.new) result (report_told scene.now journal.now.entries journal.now.facts end.now form) }
+    ensures prints { Prints (K.written sink.old) (K.written sink.new) (K.faults sink.old) (K.faults sink.new) result (report_told scene.now journal.now.entries journal.now.facts end.now form) }
+    ensures fixes { form ≡ History → OnOk result (TellsOnly scene.now journal.now.entries (report_told scene.now journal.now.entries journal.now.facts end.now form)) }
 {
+    // Read for the proof alone: a scene that is read is known to be lawful.
+    let _apps = &scene.apps;
     let names = actor_names(alloc, scene)?;
     let mut line = Line::new(alloc);
     print_body(&mut line, &names, journal, form, sink)?;
