@@ -1,10 +1,13 @@
 pub mod Counting
+pub mod Crossing
 pub mod Ending
 pub mod Fitting
 pub mod Numbers
 pub mod Ordering
 pub mod Quiet
 pub mod Scripting
+pub mod Serving
 pub mod Starting
 pub mod Stepping
 pub mod Turning
+pub mod Working

@@ -1,5 +1,5 @@
 -- Where each actor stands at its script, and how that fits to a history.
-use Rattle.std.specs.Prelude.{◌≡◌, ◌≤◌, ◌<◌, ◌+◌, ℕ, Bool, true, false, List, [], length, Option, Some, None, slice_get}
+use Rattle.std.specs.Prelude.{◌≡◌, ◌≤◌, ◌<◌, ◌+◌, ◌&&◌, ℕ, Bool, true, false, List, [], length, Option, Some, None, slice_get}
 use Rattle.kernel_values.specs.declared.entry.Entry.{Entry}
 use Rattle.kernel_values.specs.declared.reply.Answer.{Answer}
 use Rattle.kernel_values.specs.declared.script.Command.{Command}
@@ -7,6 +7,7 @@ use Rattle.kernel_types.specs.Scripts.{script_begin, stand_on, answered}
 use Rattle.kernel_types.specs.Whole.{calls_in, answers_in, final_answer, InScript}
 use Rattle.kernel_types.specs.Step.{statuses}
 use Rattle.kernel_types.specs.Turns.{history_limit}
+use Rattle.kernel_log.specs.Books.{is_of_actor}
 use Rattle.kernel_log.specs.Logs.{Log, state_of}
 use Rattle.script_actor.specs.Actors.{acting}
 use Rattle.runners.specs.declared.place.Place.{Place}
@@ -22,6 +23,15 @@ after_final place (Some answer) = record {
 
 abbrev pub after_answer : Place → Answer → Place
 after_answer place answer = after_final place (final_answer answer)
+
+-- whether an entry has the answer to a call of the actor
+
+abbrev pub is_final : Option Answer → Bool
+is_final None = false
+is_final (Some answer) = true
+
+abbrev pub is_answer_to : ℕ → Entry → Bool
+is_answer_to actor entry = is_final (final_answer entry.answer) && is_of_actor actor entry.event
 
 -- at the beginning of a script, by the first start
 abbrev pub first_place : List Command → Place

@@ -2,6 +2,8 @@
 use Rattle.std.specs.Prelude.{◌≡◌, ◌<◌, ◌+◌, ℕ, false, List, length, Option, Some, None, ⊤}
 use Rattle.kernel_values.specs.Origin.{Origin}
 use Rattle.kernel_values.specs.SceneLaw.{SceneValue, scripts_of}
+use Rattle.kernel_values.specs.declared.entry.ActorStatus.{ActorStatus}
+use Rattle.kernel_values.specs.declared.entry.ActorStatus.TheVariants as status
 use Rattle.kernel_values.specs.declared.entry.Entry.{Entry}
 use Rattle.kernel_values.specs.declared.scene.Turn.{Turn}
 use Rattle.kernel_values.specs.declared.script.Command.{Command}
@@ -9,7 +11,7 @@ use Rattle.kernel_values.specs.declared.state.State.{State}
 use Rattle.kernel_types.specs.History.{Legal, state_after}
 use Rattle.kernel_types.specs.Facts.{is_at_end}
 use Rattle.kernel_types.specs.Opening.{opening}
-use Rattle.kernel_types.specs.Whole.{FollowsScripts, IsWholeHistory}
+use Rattle.kernel_types.specs.Whole.{FollowsScripts, IsWhole, IsWholeHistory}
 use Rattle.kernel_types.specs.Step.{step}
 use Rattle.kernel_types.specs.Turns.{Run, ran, refused, run_turn, run_from, run_by, replay_of, serial_from, serial_turns, history_limit}
 use Rattle.kernel_log.specs.Logs.{Log, state_of}
@@ -31,6 +33,11 @@ told_of scripts log = record { origin = record { state = log.origin.state; scrip
 
 abbrev pub state_told : Told → State
 state_told told = state_after told.origin.state told.history
+
+-- the start by which an actor with this status runs
+abbrev pub start_running : Option ActorStatus → Option ℕ
+start_running (Some (status.Running start)) = Some start
+start_running other = None
 
 abbrev pub run_told : Told → Run
 run_told told = record { state = state_told told; entries = told.history }
@@ -88,3 +95,28 @@ pub record RanSerially (told next : Told) : Type 0 where
   pub origin_is : next.origin ≡ told.origin
   pub run_is : run_from step told.origin.scripts 0 (run_told told) (serial_from step told.origin.scripts history_limit None (run_told told)) ≡ ran (run_told next)
   pub full : is_at_end (state_told next) ≡ false → length next.history ≡ history_limit
+
+-- where a scene begins
+abbrev pub origin_of : SceneValue → Origin
+origin_of scene = record { state = opening scene; scripts = scripts_of scene; made = 0 }
+
+-- the journal is a history from the origin by whatever turns: it is legal, and each actor's calls are its script's
+pub record IsRun (origin : Origin) (log : Log) : Type 0 where
+  pub state_is : log.origin.state ≡ origin.state
+  pub legal : Legal origin.state log.journal.entries
+  pub follows : FollowsScripts origin.scripts log.journal.entries
+
+-- and it is whole
+pub record IsRunToEnd (origin : Origin) (log : Log) : Type 0 where
+  pub run : IsRun origin log
+  pub whole : IsWhole origin.state origin.scripts log.journal.entries
+
+-- or it has as many entries as a run may have, and is not whole after them
+pub record IsRunToLimit (origin : Origin) (log : Log) : Type 0 where
+  pub run : IsRun origin log
+  pub full : length log.journal.entries ≡ history_limit
+  pub unfinished : is_at_end (state_of log) ≡ false
+
+abbrev pub IsUnfinished : {K : Type 0} → Origin → RunRefused K → Type 0
+IsUnfinished origin (run_refused.TooLong log) = IsRunToLimit origin log
+IsUnfinished origin run_refused.NoMemory = ⊤

@@ -1,6 +1,6 @@
 //! A kernel with its journal and each actor's place at its script: all that a run shares.
 
-ghost use Rattle.std.specs.Prelude.{◌≡◌, ◌≤◌, ◌<◌, [], Some, length, slice_get, IfOk, OnOk, OnErr};
+ghost use Rattle.std.specs.Prelude.{◌≡◌, ◌≤◌, ◌<◌, [], Some, length, slice_get, count_by, IfOk, OnOk, OnErr};
 ghost use Rattle.kernel_values.specs.SceneLaw.{scripts_of};
 ghost use Rattle.kernel_types.specs.Opening.{opening};
 ghost use Rattle.kernel_types.specs.History.{Legal};
@@ -9,8 +9,11 @@ ghost use Rattle.kernel_types.specs.Step.{statuses, movable, device_has_work, id
 ghost use Rattle.kernel_types.specs.Whole.{FollowsScripts};
 ghost use Rattle.kernel_types.specs.Turns.{history_limit, takes_turn};
 ghost use Rattle.kernel_log.specs.Logs.{Log};
-ghost use Rattle.runners.specs.Runs.{Told, TookTurn, state_told};
+ghost use Rattle.runners.specs.Places.{is_answer_to, most_actors};
+ghost use Rattle.runners.specs.Runs.{Told, TookTurn, state_told, start_running};
 
+use crate::answered::answered;
+use crate::bell::Bell;
 use crate::place::Place;
 use crate::scripts::{places_of, scripts_of};
 use crate::steps::{Taken, step_of, step_once};
@@ -29,6 +32,7 @@ pub struct Shared<K: IpcKernel + Drop> {
     logged: Logged<K>,
     scripts: ScriptList,
     places: Vec<Place>,
+    bell: Bell,
     alloc: Global,
 }
 
@@ -53,10 +57,12 @@ impl<K: IpcKernel + Drop> Shared<K> {
     {
         let scripts = scripts_of(alloc, scene)?;
         let places = places_of(alloc, scripts.as_slice())?;
+        let bell = Bell::new(alloc)?;
         Ok(Shared {
             logged: Logged::new(alloc, kernel),
             scripts,
             places,
+            bell,
             alloc,
         })
     }
@@ -70,16 +76,19 @@ impl<K: IpcKernel + Drop> Shared<K> {
             logged,
             scripts: _,
             places: _,
+            bell: _,
             alloc: _,
         } = self;
         logged
     }
 
-    /// What the type keeps: the history is legal, no longer than a run may be, and follows the scripts.
+    /// What the type keeps: the history is legal, no longer than a run may be, and follows the scripts, of
+    /// which each actor has one.
     pub fn legal(&self)
         ensures legal { Legal self.now.origin.state self.now.history }
         ensures follows { FollowsScripts self.now.origin.scripts self.now.history }
         ensures short { length self.now.history ≤ history_limit }
+        ensures actors { length (statuses (state_told self.now)) ≡ length self.now.origin.scripts }
     {
         self.logged.legal();
     }
@@ -93,6 +102,7 @@ impl<K: IpcKernel + Drop> Shared<K> {
 
     /// The number of actors.
     pub fn actors(&self) -> u32
+        ensures few { result ≤ most_actors }
         ensures scripts { result ≡ length self.now.origin.scripts }
         ensures statuses { result ≡ length (statuses (state_told self.now)) }
     {
@@ -110,6 +120,37 @@ impl<K: IpcKernel + Drop> Shared<K> {
             ActorStatus::Waiting { .. } => kernel.movable(ActorId(actor)),
             ActorStatus::Off | ActorStatus::Ended { .. } => false,
         }
+    }
+
+    /// The start by which the actor runs, where it runs.
+    pub fn start_running(&self, actor: u32) -> Option<u32>
+        requires { actor < length (statuses (state_told self.now)) }
+        ensures { result ≡ start_running (status_at (state_told self.now) actor) }
+    {
+        match self.logged.kernel().status(ActorId(actor)) {
+            ActorStatus::Running { start } => Some(start),
+            ActorStatus::Waiting { .. } | ActorStatus::Off | ActorStatus::Ended { .. } => None,
+        }
+    }
+
+    /// Whether the actor's last call has no answer yet.
+    pub fn waits(&self, actor: u32) -> bool {
+        match self.places.get(actor as usize) {
+            Some(place) => place.waits,
+            None => false,
+        }
+    }
+
+    /// How many calls of the actor were answered.
+    pub fn answered(&self, actor: u32) -> u64
+        ensures { result ≡ count_by (is_answer_to actor) self.now.history }
+    {
+        answered(self.logged.journal().entries(), actor)
+    }
+
+    /// The bell of those who share this.
+    pub fn bell(&self) -> &Bell {
+        &self.bell
     }
 
     pub fn device_has_work(&self) -> bool

@@ -137,3 +137,20 @@ fn a_shared_kernel_of_nobody(rt: HostRuntime) -> Result<(), Fail> {
     assert!(rt; shared.into_logged().journal().len() == 0);
     Ok(())
 }
+
+// A bell is rung for all who hold it, and tells who is recalled.
+#[test]
+fn a_bell_is_heard_by_all_who_hold_it(rt: HostRuntime) -> Result<(), Fail> {
+    let bell = bell::Bell::new(rt.alloc())?;
+    let other = bell.again()?;
+    assert!(rt; !other.has_failed());
+    assert!(rt; !other.is_recalled(ActorId(3)));
+    bell.ring();
+    assert!(rt; other.strokes() == 1);
+    bell.recall(ActorId(3));
+    assert!(rt; other.is_recalled(ActorId(3)));
+    bell.fail();
+    assert!(rt; other.has_failed());
+    other.sleep(&rt, 1);
+    Ok(())
+}
