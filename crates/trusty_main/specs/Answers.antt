@@ -1,12 +1,16 @@
 -- What each status of the program says.
 use Rattle.std.specs.Prelude.{◌≡◌, ◌≢◌, ◌≤◌, ℕ, List, ◌++◌, false, length, Option, Some, None, Result, Ok, Err, ⊤}
 use Rattle.std.specs.Io.KnownBytes.{Appends}
+use Rattle.app_laws.specs.Ended.{EndedNameNone}
 use Rattle.kernel_types.specs.History.{Legal, state_after}
+use Rattle.kernel_types.specs.Names.{naming, names_of}
 use Rattle.kernel_types.specs.Opening.{opening}
 use Rattle.kernel_types.specs.Turns.{Run, ran, refused, history_limit}
 use Rattle.kernel_types.specs.Whole.{IsWholeHistory, FollowsScripts}
-use Rattle.kernel_types.specs.Facts.{is_at_end}
+use Rattle.kernel_types.specs.Facts.{is_at_end, names_at}
 use Rattle.kernel_values.specs.SceneLaw.{SceneValue, scripts_of}
+use Rattle.kernel_values.specs.declared.entry.Entry.{Entry}
+use Rattle.kernel_values.specs.declared.state.State.{State}
 use Rattle.outside_io.specs.Faults.{Rose}
 use Rattle.scene_reader.specs.declared.fault.SceneFault.{SceneFault}
 use Rattle.trusty_main.specs.Due.{Due, due}
@@ -17,14 +21,25 @@ use Rattle.trusty_main.specs.declared.plan.Plan.{Plan}
 use Rattle.trusty_main.specs.declared.status.Status.{Status}
 use Rattle.trusty_main.specs.declared.status.Status.TheVariants as status
 
--- The run of a plan is one legal history of the sequential kernel from the scene's opening state, in which each actor's
--- calls are its script's, each once, in its order, to its end.
+-- each object's count is the number of entries that name it
+abbrev pub CountsNames : State → Type 0
+CountsNames s = (object count : ℕ) → names_at s object ≡ Some count → count ≡ names_of (naming s.core) object
+
+-- A legal history of the sequential kernel from the scene's opening state, in which each actor's calls are its script's, each
+-- once, in its order, to its end; and after every step of it each object's count is the number of entries that name it, and an
+-- ended application names none.
+pub record IsSequentialHistory (scene : SceneValue) (entries : List Entry) : Type 0 where
+  pub legal : Legal (opening scene) entries
+  pub whole : IsWholeHistory scene entries
+  pub counted : (before after : List Entry) → entries ≡ before ++ after → CountsNames (state_after (opening scene) before)
+  pub ended : (before after : List Entry) → entries ≡ before ++ after → EndedNameNone (state_after (opening scene) before)
+
+-- the run of a plan is one such history
 pub record IsWholeRun (order : Order) (scene : SceneValue) : Type 0 where
   pub run : Run
   pub run_is : outturn_of order scene ≡ ran run
-  pub legal : Legal (opening scene) run.entries
   pub state_is : run.state ≡ state_after (opening scene) run.entries
-  pub whole : IsWholeHistory scene run.entries
+  pub history : IsSequentialHistory scene run.entries
 
 -- The run has as many entries as a run may have, and is not at its end.
 pub record IsEndless (order : Order) (scene : SceneValue) : Type 0 where

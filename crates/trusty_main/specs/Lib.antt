@@ -1,4 +1,5 @@
 pub mod Answers
+pub mod Commanded
 pub mod Due
 pub mod Plans
 pub mod Texts

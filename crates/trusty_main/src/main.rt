@@ -1,19 +1,26 @@
 //! `trusty`: reads a scene from standard input, runs it, and writes a report to standard output.
 #![tactic(auto)]
 
+#[cfg(test)]
+mod gate_tests;
+mod plain;
 pub mod plan;
 mod status;
+mod telling;
 #[cfg(test)]
 mod tests;
 mod texts;
+#[cfg(test)]
+mod thread_tests;
 mod trusty;
 
 use outside_io::{StdSink, StdSource};
+use runners::NoHook;
 use status::Status;
 use std::env;
 use std::io::ErrorKind;
 use std::process::ExitCode;
-use trusty::trusty_plain;
+use trusty::trusty;
 
 // The words after the program's name. Words of which one is not UTF-8 are no command, and neither are no
 // words at all.
@@ -37,7 +44,14 @@ fn main(rt: HostRuntime) -> ExitCode {
         Ok(words) => {
             let mut source = StdSource::new(rt.stdin());
             let mut sink = StdSink::new(rt.stdout());
-            trusty_plain(rt.alloc(), words.as_slice(), &mut source, &mut sink)
+            trusty(
+                &rt,
+                rt.alloc(),
+                words.as_slice(),
+                &mut source,
+                &mut sink,
+                &NoHook,
+            )
         }
         Err(status) => status,
     };

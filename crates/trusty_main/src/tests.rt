@@ -1,6 +1,8 @@
+use crate::plain::trusty_plain;
 use crate::status::Status;
-use crate::trusty::trusty_plain;
+use crate::trusty::trusty;
 use outside_io::{MemSink, MemSource, QuietSink, QuietSource};
+use runners::NoHook;
 use std::alloc::Global;
 use std::test::Fail;
 
@@ -71,6 +73,52 @@ fn rows(rt: HostRuntime) -> Result<(), Fail> {
         let words = words(rt.alloc(), text)?;
         assert_eq!(rt;
             trusty_plain(rt.alloc(), words.as_slice(), &mut source, &mut sink),
+            status
+        );
+        assert_eq!(rt; sink.written(), written.as_bytes());
+    }
+    Ok(())
+}
+
+// One application whose only call is answered before its end, so that every order of turns tells the same.
+#[test]
+fn threads_run_a_scene(rt: HostRuntime) -> Result<(), Fail> {
+    let rows = [
+        (
+            "run",
+            "history 2\n0 a.0 set -> handle 0\n1 a.0 finish -> done\nend clock 0 objects 0 names 0\n",
+            Status::Done,
+        ),
+        (
+            "run --form actors",
+            "actor a.0 calls 2\nset -> handle 0\nfinish -> done\nend clock 0 objects 0 names 0\n",
+            Status::Done,
+        ),
+        (
+            "serial",
+            "history 2\n0 a.0 set -> handle 0\n1 a.0 finish -> done\nend clock 0 objects 0 names 0\n",
+            Status::Done,
+        ),
+        ("replay", "turn 0 refused\n", Status::TurnRefused),
+        (
+            "runs",
+            "usage: trusty COMMAND [--form FORM]\n",
+            Status::Usage,
+        ),
+    ];
+    for (text, written, status) in rows {
+        let mut source = QuietSource::new(rt.alloc(), b"scene 1\napp a\nthread\nset\n", 10)?;
+        let mut sink = QuietSink::new(rt.alloc(), 4_096)?;
+        let words = words(rt.alloc(), text)?;
+        assert_eq!(rt;
+            trusty(
+                &rt,
+                rt.alloc(),
+                words.as_slice(),
+                &mut source,
+                &mut sink,
+                &NoHook
+            ),
             status
         );
         assert_eq!(rt; sink.written(), written.as_bytes());

@@ -1,235 +1,159 @@
 //! The top call: from the words and the input to what is written and the status.
 
-ghost use Rattle.std.specs.Prelude.{◌≡◌, ◌≢◌, ◌≤◌, ◌⊎◌, Some, None, Ok, Err, map, length, string_bytes, IfSome};
+ghost use Rattle.std.specs.Prelude.{◌≡◌, ◌≢◌, ◌≤◌, ◌⊎◌, Some, None, Ok, map, length, string_bytes, IfNone, IfSome};
 ghost use Rattle.std.specs.Io.KnownBytes.{Appends, Keeps, IsAtEnd};
 ghost use Rattle.outside_io.specs.Faults.{Rose};
 ghost use Rattle.outside_io.specs.Reading.{TakesMore};
+ghost use Rattle.command_line.specs.Commands.{command_in};
 ghost use Rattle.scene_reader.specs.Whole.{scene_of};
-ghost use Rattle.kernel_types.specs.Opening.{opening};
-ghost use Rattle.kernel_types.specs.Turns.{history_limit};
-ghost use Rattle.report_text.specs.Forms.{report};
-ghost use Rattle.report_text.specs.Printing.{Prints};
-ghost use Rattle.trusty_main.specs.Answers.{IsWholeRun, IsEndless, Told, Tells, AppendsSome, HasPlan, HasScene, AppendsSomeDue, GetsDue};
-ghost use Rattle.trusty_main.specs.Due.{due, due_of_scene, due_of_run};
-ghost use Rattle.trusty_main.specs.Plans.{plan_in, outturn_of};
-ghost use Rattle.trusty_main.specs.Texts.{usage_text, fault_text, turn_text, too_long_text};
+ghost use Rattle.trusty_main.specs.Answers.{HasScene};
+ghost use Rattle.trusty_main.specs.Commanded.{AppendsSomeOf, GetsDueOf, HasCommand, IsDue, IsDueOfScene, IsPlain, IsReported, TellsSome, ToldOf, form_of};
+ghost use Rattle.trusty_main.specs.Texts.{usage_text};
 
-use crate::plan::{Order, Plan, plan_of};
+use crate::plain::{ProgramKernel, trusty_plain};
 use crate::status::Status;
-use crate::texts::{fault_line, too_long_line, turn_line, usage_line};
-use kernel_log::Logged;
-use kernel_types::IpcKernel;
+use crate::telling::{tell_fault, tell_report, tell_too_long};
+use command_line::{Command, command_of};
 use kernel_types::values::Scene;
-use outside_io::{INPUT_LIMIT, ReadRefused, Sink, Source, read_all, write_all};
-use plain_kernel::PlainKernel;
-use report_text::{Form, PrintRefused, print_report};
-use runners::{ReplayRefused, RunRefused, replay, serial};
-use scene_laws::turns_take_bytes;
-use scene_reader::{SceneFault, SceneRefused, read_scene};
+use outside_io::{INPUT_LIMIT, ReadRefused, Sink, Source, read_all};
+use report_text::Form;
+use runners::{Hook, RunRefused, threads};
+use scene_reader::{SceneRefused, read_scene};
 use std::alloc::Global;
-
-/// The program's kernel.
-type ProgramKernel = PlainKernel;
+use std::sync::Wait;
+use std::thread::Threads;
 
 /// Runs the command that the words give: reads a scene to the source's end, runs it, and writes the
-/// report. `run` takes threads, and is no command here.
-pub fn trusty_plain<S: Source, K: Sink>(
+/// report. For `run` each actor has a thread of its own, and the hook is called before each of its calls;
+/// that this returns is not promised. Every other command takes no threads and always returns.
+pub fn trusty<R: Threads + Wait + Sync, S: Source, K: Sink, H: Hook + Sync>(
+    rt: &R,
     alloc: Global,
     words: &[String],
     source: &mut S,
     sink: &mut K,
+    hook: &H,
 ) -> Status
-    // The bytes written are the report of a legal and whole history of the scene that was left.
-    ensures done { result ≡ Status.Done → HasPlan (plan_in (map string_bytes words.now)) (λ plan. IfSome (S.left source.old) (λ input. Told (due plan input) Status.Done (K.written sink.old) (K.written sink.new)
-        × HasScene (scene_of input) (λ scene. IsWholeRun plan.order scene)))
+    // Whatever turns the threads take, the bytes written are the report of one legal history of the sequential kernel,
+    // in which each actor's calls are its script's, each once, in its order, to its end; and after every step of that
+    // history each object's count is the number of entries that name it, and an ended application names none.
+    ensures done { result ≡ Status.Done → HasCommand (command_in (map string_bytes words.now)) (λ command. IfSome (S.left source.old) (λ input. HasScene (scene_of input) (λ scene. IsReported (form_of command) scene (K.written sink.old) (K.written sink.new))))
         × IsAtEnd (S.left source.new) }
-    ensures input_refused { result ≡ Status.InputRefused → HasPlan (plan_in (map string_bytes words.now)) (λ plan. IfSome (S.left source.old) (λ input. Told (due plan input) Status.InputRefused (K.written sink.old) (K.written sink.new)))
+
+    // What is told is what is due: of `serial` and `replay` the one text, of `run` that of some history.
+    ensures told { result ≡ Status.Done → HasCommand (command_in (map string_bytes words.now)) (λ command. IfSome (S.left source.old) (λ input. ToldOf command input Status.Done (K.written sink.old) (K.written sink.new))) }
+    ensures input_refused { result ≡ Status.InputRefused → HasCommand (command_in (map string_bytes words.now)) (λ command. IfSome (S.left source.old) (λ input. ToldOf command input Status.InputRefused (K.written sink.old) (K.written sink.new)))
         × IsAtEnd (S.left source.new) }
-    ensures usage { result ≡ Status.Usage → (plan_in (map string_bytes words.now) ≡ None) × Appends (K.written sink.old) (K.written sink.new) usage_text × (source.new ≡ source.old) }
-    ensures turn_refused { result ≡ Status.TurnRefused → HasPlan (plan_in (map string_bytes words.now)) (λ plan. IfSome (S.left source.old) (λ input. Told (due plan input) Status.TurnRefused (K.written sink.old) (K.written sink.new)))
+    ensures turn_refused { result ≡ Status.TurnRefused → HasCommand (command_in (map string_bytes words.now)) (λ command. IfSome (S.left source.old) (λ input. ToldOf command input Status.TurnRefused (K.written sink.old) (K.written sink.new)))
         × IsAtEnd (S.left source.new) }
-    ensures run_too_long { result ≡ Status.RunTooLong → HasPlan (plan_in (map string_bytes words.now)) (λ plan. IfSome (S.left source.old) (λ input. Told (due plan input) Status.RunTooLong (K.written sink.old) (K.written sink.new)
-        × HasScene (scene_of input) (λ scene. IsEndless plan.order scene)))
+    ensures run_too_long { result ≡ Status.RunTooLong → HasCommand (command_in (map string_bytes words.now)) (λ command. IfSome (S.left source.old) (λ input. ToldOf command input Status.RunTooLong (K.written sink.old) (K.written sink.new)))
         × IsAtEnd (S.left source.new) }
+    ensures usage { result ≡ Status.Usage → (command_in (map string_bytes words.now) ≡ None) × Appends (K.written sink.old) (K.written sink.new) usage_text × (source.new ≡ source.old) }
 
     // A fault is answered only where it came, and then at most a front of what is due was written.
     ensures read_fault { result ≡ Status.ReadFault → Rose (S.faults source.old) (S.faults source.new) × Keeps (K.written sink.old) (K.written sink.new) }
-    ensures write_fault { result ≡ Status.WriteFault → Rose (K.faults sink.old) (K.faults sink.new) × AppendsSomeDue (plan_in (map string_bytes words.now)) (S.left source.old) (K.written sink.old) (K.written sink.new) }
-    ensures no_memory { result ≡ Status.NoMemory → AppendsSomeDue (plan_in (map string_bytes words.now)) (S.left source.old) (K.written sink.old) (K.written sink.new) }
+    ensures write_fault { result ≡ Status.WriteFault → Rose (K.faults sink.old) (K.faults sink.new) × AppendsSomeOf (command_in (map string_bytes words.now)) (S.left source.old) (K.written sink.old) (K.written sink.new) }
+    ensures no_memory { result ≡ Status.NoMemory → AppendsSomeOf (command_in (map string_bytes words.now)) (S.left source.old) (K.written sink.old) (K.written sink.new) }
     ensures input_too_long { result ≡ Status.InputTooLong → TakesMore INPUT_LIMIT (S.left source.old) (S.left source.new) × Keeps (K.written sink.old) (K.written sink.new) }
     ensures later { (S.faults source.old ≤ S.faults source.new) × (K.faults sink.old ≤ K.faults sink.new) }
 
     // Words that are no command are told so, and a command whose input is within the limit gets what is due, where
     // no read and no write failed and memory was there.
-    ensures no_command { plan_in (map string_bytes words.now) ≡ None → (result ≡ Status.Usage) ⊎ (result ≡ Status.WriteFault) ⊎ (result ≡ Status.NoMemory) }
-    ensures complete { GetsDue (plan_in (map string_bytes words.now)) (S.left source.old) INPUT_LIMIT result }
+    ensures no_command { command_in (map string_bytes words.now) ≡ None → (result ≡ Status.Usage) ⊎ (result ≡ Status.WriteFault) ⊎ (result ≡ Status.NoMemory) }
+    ensures complete { GetsDueOf (command_in (map string_bytes words.now)) (S.left source.old) INPUT_LIMIT result }
 {
-    let plan = match plan_of(alloc, words) {
-        Ok(Some(plan)) => plan,
-        Ok(None) => return tell_usage(sink),
+    let command = match command_of(alloc, words) {
+        Ok(command) => command,
         Err(_) => return Status::NoMemory,
     };
+    match threaded(command) {
+        Some(form) => run(rt, alloc, form, source, sink, hook),
+        None => trusty_plain(alloc, words, source, sink),
+    }
+}
+
+// The form of a command that takes threads.
+fn threaded(command: Option<Command>) -> Option<Form>
+    ensures threads { IfSome result (λ form. command ≡ Some (Command.Run form)) }
+    ensures plain { IfNone result (IsPlain command) }
+{
+    match command {
+        None => None,
+        Some(Command::Serial(_)) => None,
+        Some(Command::Replay(_)) => None,
+        Some(Command::Run(form)) => Some(form),
+    }
+}
+
+// Reads a scene and runs it by threads.
+#[tactic(auto, using(crate::proofs::Commanding::run_later, crate::proofs::Commanding::run_no_usage, crate::proofs::Commanding::run_no_fault, crate::proofs::Commanding::run_done, crate::proofs::Commanding::run_told, crate::proofs::Commanding::run_refused, crate::proofs::Commanding::run_turn, crate::proofs::Commanding::run_endless, crate::proofs::Commanding::run_fault, crate::proofs::Commanding::run_memory, crate::proofs::Commanding::run_gets))]
+fn run<R: Threads + Wait + Sync, S: Source, K: Sink, H: Hook + Sync>(
+    rt: &R,
+    alloc: Global,
+    form: Form,
+    source: &mut S,
+    sink: &mut K,
+    hook: &H,
+) -> Status
+    ensures done { result ≡ Status.Done → IfSome (S.left source.old) (λ input. HasScene (scene_of input) (λ scene. IsReported form scene (K.written sink.old) (K.written sink.new))) × IsAtEnd (S.left source.new) }
+    ensures told { result ≡ Status.Done → IfSome (S.left source.old) (λ input. ToldOf (Command.Run form) input Status.Done (K.written sink.old) (K.written sink.new)) }
+    ensures input_refused { result ≡ Status.InputRefused → IfSome (S.left source.old) (λ input. ToldOf (Command.Run form) input Status.InputRefused (K.written sink.old) (K.written sink.new)) × IsAtEnd (S.left source.new) }
+    ensures turn_refused { result ≡ Status.TurnRefused → IfSome (S.left source.old) (λ input. ToldOf (Command.Run form) input Status.TurnRefused (K.written sink.old) (K.written sink.new)) × IsAtEnd (S.left source.new) }
+    ensures run_too_long { result ≡ Status.RunTooLong → IfSome (S.left source.old) (λ input. ToldOf (Command.Run form) input Status.RunTooLong (K.written sink.old) (K.written sink.new)) × IsAtEnd (S.left source.new) }
+    ensures no_usage { result ≢ Status.Usage }
+    ensures read_fault { result ≡ Status.ReadFault → Rose (S.faults source.old) (S.faults source.new) × Keeps (K.written sink.old) (K.written sink.new) }
+    ensures write_fault { result ≡ Status.WriteFault → Rose (K.faults sink.old) (K.faults sink.new) × AppendsSomeOf (Some (Command.Run form)) (S.left source.old) (K.written sink.old) (K.written sink.new) }
+    ensures no_memory { result ≡ Status.NoMemory → AppendsSomeOf (Some (Command.Run form)) (S.left source.old) (K.written sink.old) (K.written sink.new) }
+    ensures input_too_long { result ≡ Status.InputTooLong → TakesMore INPUT_LIMIT (S.left source.old) (S.left source.new) × Keeps (K.written sink.old) (K.written sink.new) }
+    ensures later { (S.faults source.old ≤ S.faults source.new) × (K.faults sink.old ≤ K.faults sink.new) }
+    ensures complete { GetsDueOf (Some (Command.Run form)) (S.left source.old) INPUT_LIMIT result }
+{
     let input = match read_all(alloc, source) {
         Ok(input) => input,
         Err(ReadRefused::Failed) => return Status::ReadFault,
         Err(ReadRefused::TooLong) => return Status::InputTooLong,
         Err(ReadRefused::NoMemory) => return Status::NoMemory,
     };
-    answer(alloc, plan, input.as_slice(), sink)
-}
-
-fn tell_usage<K: Sink>(sink: &mut K) -> Status
-    ensures usage { result ≡ Status.Usage → Appends (K.written sink.old) (K.written sink.new) usage_text }
-    ensures write_fault { result ≡ Status.WriteFault → Rose (K.faults sink.old) (K.faults sink.new) × AppendsSome (K.written sink.old) (K.written sink.new) usage_text }
-    ensures only { (result ≡ Status.Usage) ⊎ (result ≡ Status.WriteFault) }
-    ensures later { K.faults sink.old ≤ K.faults sink.new }
-{
-    match write_all(sink, usage_line()) {
-        Ok(()) => Status::Usage,
-        Err(_) => Status::WriteFault,
-    }
+    answer(rt, alloc, form, input.as_slice(), sink, hook)
 }
 
 // The input is a scene that is run, or its first fault is told.
-#[tactic(auto, using(crate::proofs::Reporting::tells_due, crate::proofs::Reporting::read_is_due))]
-fn answer<K: Sink>(alloc: Global, plan: Plan, input: &[u8], sink: &mut K) -> Status
+#[tactic(auto, using(crate::proofs::Commanding::scene_told, crate::proofs::Commanding::fault_told, crate::proofs::Commanding::untold))]
+fn answer<R: Threads + Wait + Sync, K: Sink, H: Hook + Sync>(
+    rt: &R,
+    alloc: Global,
+    form: Form,
+    input: &[u8],
+    sink: &mut K,
+    hook: &H,
+) -> Status
     requires { length input.now ≤ INPUT_LIMIT }
-    ensures tells { Tells (due plan input.now) (K.written sink.old) (K.written sink.new) (K.faults sink.old) (K.faults sink.new) result }
-    ensures done { result ≡ Status.Done → HasScene (scene_of input.now) (λ scene. IsWholeRun plan.order scene) }
-    ensures endless { result ≡ Status.RunTooLong → HasScene (scene_of input.now) (λ scene. IsEndless plan.order scene) }
+    ensures tells { TellsSome (IsDue (Command.Run form) input.now) (K.written sink.old) (K.written sink.new) (K.faults sink.old) (K.faults sink.new) result }
 {
     match read_scene(alloc, input) {
-        Ok(scene) => {
-            turns_take_bytes();
-            run(alloc, plan, &scene, sink)
-        }
+        Ok(scene) => run_scene(rt, alloc, form, &scene, sink, hook),
         Err(SceneRefused::Fault(fault)) => tell_fault(alloc, &fault, sink),
         Err(SceneRefused::NoMemory) => Status::NoMemory,
     }
 }
 
-fn tell_fault<K: Sink>(alloc: Global, fault: &SceneFault, sink: &mut K) -> Status
-    ensures tells { Tells (record { status = Status.InputRefused; text = fault_text fault.now }) (K.written sink.old) (K.written sink.new) (K.faults sink.old) (K.faults sink.new) result }
-{
-    let Ok(line) = fault_line(alloc, fault) else {
-        return Status::NoMemory;
-    };
-    match write_all(sink, line.as_slice()) {
-        Ok(()) => Status::InputRefused,
-        Err(_) => Status::WriteFault,
-    }
-}
-
-fn run<K: Sink>(alloc: Global, plan: Plan, scene: &Scene, sink: &mut K) -> Status
-    requires { length scene.now.turns ≤ history_limit }
-    ensures tells { Tells (due_of_scene plan (Ok scene.now)) (K.written sink.old) (K.written sink.new) (K.faults sink.old) (K.faults sink.new) result }
-    ensures done { result ≡ Status.Done → IsWholeRun plan.order scene.now }
-    ensures endless { result ≡ Status.RunTooLong → IsEndless plan.order scene.now }
+#[tactic(auto, using(crate::proofs::Commanding::whole_told, crate::proofs::Commanding::limit_told, crate::proofs::Commanding::untold))]
+fn run_scene<R: Threads + Wait + Sync, K: Sink, H: Hook + Sync>(
+    rt: &R,
+    alloc: Global,
+    form: Form,
+    scene: &Scene,
+    sink: &mut K,
+    hook: &H,
+) -> Status
+    ensures tells { TellsSome (IsDueOfScene (Command.Run form) (Ok scene.now)) (K.written sink.old) (K.written sink.new) (K.faults sink.old) (K.faults sink.new) result }
 {
     let Ok(kernel) = ProgramKernel::new(alloc, scene) else {
         return Status::NoMemory;
     };
-    match plan.order {
-        Order::Serial => run_serially(alloc, plan.form, kernel, scene, sink),
-        Order::Replay => run_turns(alloc, plan.form, kernel, scene, sink),
-    }
-}
-
-#[tactic(auto, using(crate::proofs::Reporting::tells_due, crate::proofs::Reporting::whole_is_due, crate::proofs::Reporting::unfinished_is_due))]
-fn run_serially<C: IpcKernel + Drop, K: Sink>(
-    alloc: Global,
-    form: Form,
-    kernel: C,
-    scene: &Scene,
-    sink: &mut K,
-) -> Status
-    requires state { C.state kernel ≡ opening scene.now }
-    requires made { C.made kernel ≡ 0 }
-    ensures tells { Tells (due_of_run scene.now form (outturn_of Order.Serial scene.now)) (K.written sink.old) (K.written sink.new) (K.faults sink.old) (K.faults sink.new) result }
-    ensures done { result ≡ Status.Done → IsWholeRun Order.Serial scene.now }
-    ensures endless { result ≡ Status.RunTooLong → IsEndless Order.Serial scene.now }
-{
-    match serial(alloc, kernel, scene) {
+    match threads(rt, alloc, kernel, scene, hook) {
         Ok(logged) => tell_report(alloc, form, scene, &logged, sink),
         Err(RunRefused::TooLong(_)) => tell_too_long(sink),
         Err(RunRefused::NoMemory) => Status::NoMemory,
-    }
-}
-
-#[tactic(auto, using(crate::proofs::Reporting::tells_due, crate::proofs::Reporting::whole_is_due, crate::proofs::Reporting::refused_is_due))]
-fn run_turns<C: IpcKernel + Drop, K: Sink>(
-    alloc: Global,
-    form: Form,
-    kernel: C,
-    scene: &Scene,
-    sink: &mut K,
-) -> Status
-    requires state { C.state kernel ≡ opening scene.now }
-    requires made { C.made kernel ≡ 0 }
-    requires turns { length scene.now.turns ≤ history_limit }
-    ensures tells { Tells (due_of_run scene.now form (outturn_of Order.Replay scene.now)) (K.written sink.old) (K.written sink.new) (K.faults sink.old) (K.faults sink.new) result }
-    ensures done { result ≡ Status.Done → IsWholeRun Order.Replay scene.now }
-    ensures endless { result ≡ Status.RunTooLong → IsEndless Order.Replay scene.now }
-{
-    match replay(alloc, kernel, scene) {
-        Ok(logged) => tell_report(alloc, form, scene, &logged, sink),
-        Err(ReplayRefused::Turn(turn)) => tell_turn(alloc, turn, sink),
-        Err(ReplayRefused::NoMemory) => Status::NoMemory,
-    }
-}
-
-fn tell_too_long<K: Sink>(sink: &mut K) -> Status
-    ensures tells { Tells (record { status = Status.RunTooLong; text = too_long_text }) (K.written sink.old) (K.written sink.new) (K.faults sink.old) (K.faults sink.new) result }
-{
-    match write_all(sink, too_long_line()) {
-        Ok(()) => Status::RunTooLong,
-        Err(_) => Status::WriteFault,
-    }
-}
-
-fn tell_turn<K: Sink>(alloc: Global, turn: u64, sink: &mut K) -> Status
-    ensures tells { Tells (record { status = Status.TurnRefused; text = turn_text turn }) (K.written sink.old) (K.written sink.new) (K.faults sink.old) (K.faults sink.new) result }
-{
-    let Ok(line) = turn_line(alloc, turn) else {
-        return Status::NoMemory;
-    };
-    match write_all(sink, line.as_slice()) {
-        Ok(()) => Status::TurnRefused,
-        Err(_) => Status::WriteFault,
-    }
-}
-
-// Prints the report of the history that the kernel's journal has.
-#[tactic(auto, using(crate::proofs::Reporting::told_is_report))]
-fn print<C: IpcKernel + Drop, K: Sink>(
-    alloc: Global,
-    form: Form,
-    scene: &Scene,
-    logged: &Logged<C>,
-    sink: &mut K,
-) -> Result<(), PrintRefused>
-    requires { logged.now.origin.state ≡ opening scene.now }
-    ensures { Prints (K.written sink.old) (K.written sink.new) (K.faults sink.old) (K.faults sink.new) result (report scene.now logged.now.journal.entries form) }
-{
-    logged.legal();
-    let end = logged.kernel().end_facts();
-    print_report(alloc, scene, logged.journal(), &end, form, sink)
-}
-
-fn tell_report<C: IpcKernel + Drop, K: Sink>(
-    alloc: Global,
-    form: Form,
-    scene: &Scene,
-    logged: &Logged<C>,
-    sink: &mut K,
-) -> Status
-    requires { logged.now.origin.state ≡ opening scene.now }
-    ensures tells { Tells (record { status = Status.Done; text = report scene.now logged.now.journal.entries form }) (K.written sink.old) (K.written sink.new) (K.faults sink.old) (K.faults sink.new) result }
-    ensures only { (result ≢ Status.RunTooLong) × (result ≢ Status.TurnRefused) }
-{
-    match print(alloc, form, scene, logged, sink) {
-        Ok(()) => Status::Done,
-        Err(PrintRefused::Failed) => Status::WriteFault,
-        Err(PrintRefused::NoMemory) => Status::NoMemory,
     }
 }

@@ -6,7 +6,7 @@ use Rattle.trusty_main.specs.Answers.{Tells}
 use Rattle.trusty_main.specs.Texts.{fault_text}
 use Rattle.trusty_main.specs.declared.status.Status.TheVariants as status
 use Rattle.trusty_main.proofs.Reporting.{tells_due, read_is_due}
-use Rattle.trusty_main.proofs.trusty.answer.Goals as goal
+use Rattle.trusty_main.proofs.plain.answer.Goals as goal
 
 pub run-requires : goal.run-requires
 unfolding history_limit

@@ -1,0 +1,152 @@
+//! The commands that take no threads: from the words and the input to what is written and the status.
+
+ghost use Rattle.std.specs.Prelude.{◌≡◌, ◌≢◌, ◌≤◌, ◌⊎◌, Some, None, Ok, map, length, string_bytes, IfSome};
+ghost use Rattle.std.specs.Io.KnownBytes.{Appends, Keeps, IsAtEnd};
+ghost use Rattle.outside_io.specs.Faults.{Rose};
+ghost use Rattle.outside_io.specs.Reading.{TakesMore};
+ghost use Rattle.scene_reader.specs.Whole.{scene_of};
+ghost use Rattle.kernel_types.specs.Opening.{opening};
+ghost use Rattle.kernel_types.specs.Turns.{history_limit};
+ghost use Rattle.trusty_main.specs.Answers.{IsWholeRun, IsEndless, Told, Tells, HasPlan, HasScene, AppendsSomeDue, GetsDue};
+ghost use Rattle.trusty_main.specs.Due.{due, due_of_scene, due_of_run};
+ghost use Rattle.trusty_main.specs.Plans.{plan_in, outturn_of};
+ghost use Rattle.trusty_main.specs.Texts.{usage_text};
+
+use crate::plan::{Order, Plan, plan_of};
+use crate::status::Status;
+use crate::telling::{tell_fault, tell_report, tell_too_long, tell_turn, tell_usage};
+use kernel_types::IpcKernel;
+use kernel_types::values::Scene;
+use outside_io::{INPUT_LIMIT, ReadRefused, Sink, Source, read_all};
+use plain_kernel::PlainKernel;
+use report_text::Form;
+use runners::{ReplayRefused, RunRefused, replay, serial};
+use scene_laws::turns_take_bytes;
+use scene_reader::{SceneRefused, read_scene};
+use std::alloc::Global;
+
+/// The program's kernel.
+pub type ProgramKernel = PlainKernel;
+
+/// Runs the command that the words give: reads a scene to the source's end, runs it, and writes the
+/// report. `run` takes threads, and is no command here.
+pub fn trusty_plain<S: Source, K: Sink>(
+    alloc: Global,
+    words: &[String],
+    source: &mut S,
+    sink: &mut K,
+) -> Status
+    // The bytes written are the report of a legal and whole history of the scene that was left.
+    ensures done { result ≡ Status.Done → HasPlan (plan_in (map string_bytes words.now)) (λ plan. IfSome (S.left source.old) (λ input. Told (due plan input) Status.Done (K.written sink.old) (K.written sink.new)
+        × HasScene (scene_of input) (λ scene. IsWholeRun plan.order scene)))
+        × IsAtEnd (S.left source.new) }
+    ensures input_refused { result ≡ Status.InputRefused → HasPlan (plan_in (map string_bytes words.now)) (λ plan. IfSome (S.left source.old) (λ input. Told (due plan input) Status.InputRefused (K.written sink.old) (K.written sink.new)))
+        × IsAtEnd (S.left source.new) }
+    ensures usage { result ≡ Status.Usage → (plan_in (map string_bytes words.now) ≡ None) × Appends (K.written sink.old) (K.written sink.new) usage_text × (source.new ≡ source.old) }
+    ensures turn_refused { result ≡ Status.TurnRefused → HasPlan (plan_in (map string_bytes words.now)) (λ plan. IfSome (S.left source.old) (λ input. Told (due plan input) Status.TurnRefused (K.written sink.old) (K.written sink.new)))
+        × IsAtEnd (S.left source.new) }
+    ensures run_too_long { result ≡ Status.RunTooLong → HasPlan (plan_in (map string_bytes words.now)) (λ plan. IfSome (S.left source.old) (λ input. Told (due plan input) Status.RunTooLong (K.written sink.old) (K.written sink.new)
+        × HasScene (scene_of input) (λ scene. IsEndless plan.order scene)))
+        × IsAtEnd (S.left source.new) }
+
+    // A fault is answered only where it came, and then at most a front of what is due was written.
+    ensures read_fault { result ≡ Status.ReadFault → Rose (S.faults source.old) (S.faults source.new) × Keeps (K.written sink.old) (K.written sink.new) }
+    ensures write_fault { result ≡ Status.WriteFault → Rose (K.faults sink.old) (K.faults sink.new) × AppendsSomeDue (plan_in (map string_bytes words.now)) (S.left source.old) (K.written sink.old) (K.written sink.new) }
+    ensures no_memory { result ≡ Status.NoMemory → AppendsSomeDue (plan_in (map string_bytes words.now)) (S.left source.old) (K.written sink.old) (K.written sink.new) }
+    ensures input_too_long { result ≡ Status.InputTooLong → TakesMore INPUT_LIMIT (S.left source.old) (S.left source.new) × Keeps (K.written sink.old) (K.written sink.new) }
+    ensures later { (S.faults source.old ≤ S.faults source.new) × (K.faults sink.old ≤ K.faults sink.new) }
+
+    // Words that are no command are told so, and a command whose input is within the limit gets what is due, where
+    // no read and no write failed and memory was there.
+    ensures no_command { plan_in (map string_bytes words.now) ≡ None → (result ≡ Status.Usage) ⊎ (result ≡ Status.WriteFault) ⊎ (result ≡ Status.NoMemory) }
+    ensures complete { GetsDue (plan_in (map string_bytes words.now)) (S.left source.old) INPUT_LIMIT result }
+{
+    let plan = match plan_of(alloc, words) {
+        Ok(Some(plan)) => plan,
+        Ok(None) => return tell_usage(sink),
+        Err(_) => return Status::NoMemory,
+    };
+    let input = match read_all(alloc, source) {
+        Ok(input) => input,
+        Err(ReadRefused::Failed) => return Status::ReadFault,
+        Err(ReadRefused::TooLong) => return Status::InputTooLong,
+        Err(ReadRefused::NoMemory) => return Status::NoMemory,
+    };
+    answer(alloc, plan, input.as_slice(), sink)
+}
+
+// The input is a scene that is run, or its first fault is told.
+#[tactic(auto, using(crate::proofs::Reporting::tells_due, crate::proofs::Reporting::read_is_due))]
+fn answer<K: Sink>(alloc: Global, plan: Plan, input: &[u8], sink: &mut K) -> Status
+    requires { length input.now ≤ INPUT_LIMIT }
+    ensures tells { Tells (due plan input.now) (K.written sink.old) (K.written sink.new) (K.faults sink.old) (K.faults sink.new) result }
+    ensures done { result ≡ Status.Done → HasScene (scene_of input.now) (λ scene. IsWholeRun plan.order scene) }
+    ensures endless { result ≡ Status.RunTooLong → HasScene (scene_of input.now) (λ scene. IsEndless plan.order scene) }
+{
+    match read_scene(alloc, input) {
+        Ok(scene) => {
+            turns_take_bytes();
+            run(alloc, plan, &scene, sink)
+        }
+        Err(SceneRefused::Fault(fault)) => tell_fault(alloc, &fault, sink),
+        Err(SceneRefused::NoMemory) => Status::NoMemory,
+    }
+}
+
+fn run<K: Sink>(alloc: Global, plan: Plan, scene: &Scene, sink: &mut K) -> Status
+    requires { length scene.now.turns ≤ history_limit }
+    ensures tells { Tells (due_of_scene plan (Ok scene.now)) (K.written sink.old) (K.written sink.new) (K.faults sink.old) (K.faults sink.new) result }
+    ensures done { result ≡ Status.Done → IsWholeRun plan.order scene.now }
+    ensures endless { result ≡ Status.RunTooLong → IsEndless plan.order scene.now }
+{
+    let Ok(kernel) = ProgramKernel::new(alloc, scene) else {
+        return Status::NoMemory;
+    };
+    match plan.order {
+        Order::Serial => run_serially(alloc, plan.form, kernel, scene, sink),
+        Order::Replay => run_turns(alloc, plan.form, kernel, scene, sink),
+    }
+}
+
+#[tactic(auto, using(crate::proofs::Reporting::tells_due, crate::proofs::Reporting::whole_is_due, crate::proofs::Reporting::unfinished_is_due, crate::proofs::Headline::is_history))]
+fn run_serially<C: IpcKernel + Drop, K: Sink>(
+    alloc: Global,
+    form: Form,
+    kernel: C,
+    scene: &Scene,
+    sink: &mut K,
+) -> Status
+    requires state { C.state kernel ≡ opening scene.now }
+    requires made { C.made kernel ≡ 0 }
+    ensures tells { Tells (due_of_run scene.now form (outturn_of Order.Serial scene.now)) (K.written sink.old) (K.written sink.new) (K.faults sink.old) (K.faults sink.new) result }
+    ensures done { result ≡ Status.Done → IsWholeRun Order.Serial scene.now }
+    ensures endless { result ≡ Status.RunTooLong → IsEndless Order.Serial scene.now }
+{
+    match serial(alloc, kernel, scene) {
+        Ok(logged) => tell_report(alloc, form, scene, &logged, sink),
+        Err(RunRefused::TooLong(_)) => tell_too_long(sink),
+        Err(RunRefused::NoMemory) => Status::NoMemory,
+    }
+}
+
+#[tactic(auto, using(crate::proofs::Reporting::tells_due, crate::proofs::Reporting::whole_is_due, crate::proofs::Reporting::refused_is_due, crate::proofs::Headline::is_history))]
+fn run_turns<C: IpcKernel + Drop, K: Sink>(
+    alloc: Global,
+    form: Form,
+    kernel: C,
+    scene: &Scene,
+    sink: &mut K,
+) -> Status
+    requires state { C.state kernel ≡ opening scene.now }
+    requires made { C.made kernel ≡ 0 }
+    requires turns { length scene.now.turns ≤ history_limit }
+    ensures tells { Tells (due_of_run scene.now form (outturn_of Order.Replay scene.now)) (K.written sink.old) (K.written sink.new) (K.faults sink.old) (K.faults sink.new) result }
+    ensures done { result ≡ Status.Done → IsWholeRun Order.Replay scene.now }
+    ensures endless { result ≡ Status.RunTooLong → IsEndless Order.Replay scene.now }
+{
+    match replay(alloc, kernel, scene) {
+        Ok(logged) => tell_report(alloc, form, scene, &logged, sink),
+        Err(ReplayRefused::Turn(turn)) => tell_turn(alloc, turn, sink),
+        Err(ReplayRefused::NoMemory) => Status::NoMemory,
+    }
+}
