@@ -3,7 +3,7 @@
 
   measure.py [--program PATH] [--only KIND] [--quick]
 
-For each kind of scene (see scenes.py) it runs the program at n and at 2n. Instructions are those that callgrind counts, less
+For each kind of scene (see scenes.py) it runs the program at n and at 2n, by `serial` or on threads by `run`. Instructions are those that callgrind counts, less
 those of an empty scene; processor time is the least of five runs. It prints both at n and at 2n and their ratio: 2.0 is
 linear. --quick leaves callgrind out. Run by hand: nothing here is a test."""
 import argparse
@@ -15,15 +15,16 @@ import tempfile
 
 HERE = os.path.dirname(os.path.abspath(__file__))
 PROGRAM = os.path.join(HERE, "..", "crates", "trusty_main", "out", "trusty_main")
-# kind, n, form
+# kind, n, command, form
 KINDS = [
-    ("reading", 2_000_000, "summary"),
-    ("printing", 50_000, "history"),
-    ("messages", 500, "summary"),
-    ("members", 8, "summary"),
-    ("members", 32, "summary"),
-    ("actors", 8, "summary"),
-    ("actors", 64, "summary"),
+    ("reading", 2_000_000, "serial", "summary"),
+    ("printing", 50_000, "serial", "history"),
+    ("messages", 500, "serial", "summary"),
+    ("messages", 500, "run", "summary"),
+    ("members", 8, "serial", "summary"),
+    ("members", 32, "serial", "summary"),
+    ("actors", 8, "serial", "summary"),
+    ("actors", 64, "serial", "summary"),
 ]
 
 
@@ -34,22 +35,22 @@ def scene(kind, n, folder):
     return path
 
 
-def seconds(program, form, path):
+def seconds(program, command, form, path):
     best = None
     for _ in range(5):
         before = resource.getrusage(resource.RUSAGE_CHILDREN)
         with open(path, "rb") as stdin:
-            subprocess.run([program, "serial", "--form", form], stdin=stdin, stdout=subprocess.DEVNULL, check=True)
+            subprocess.run([program, command, "--form", form], stdin=stdin, stdout=subprocess.DEVNULL, check=True)
         after = resource.getrusage(resource.RUSAGE_CHILDREN)
         spent = after.ru_utime + after.ru_stime - before.ru_utime - before.ru_stime
         best = spent if best is None else min(best, spent)
     return best
 
 
-def instructions(program, form, path, folder):
+def instructions(program, command, form, path, folder):
     out = os.path.join(folder, "callgrind.out")
     with open(path, "rb") as stdin:
-        words = ["valgrind", "--tool=callgrind", f"--callgrind-out-file={out}", program, "serial", "--form", form]
+        words = ["valgrind", "--tool=callgrind", f"--callgrind-out-file={out}", program, command, "--form", form]
         said = subprocess.run(words, stdin=stdin, stdout=subprocess.DEVNULL, stderr=subprocess.PIPE, text=True, check=True).stderr
     return int(re.search(r"Collected : (\d+)", said)[1])
 
@@ -61,15 +62,15 @@ def main():
     parser.add_argument("--quick", action="store_true")
     words = parser.parse_args()
     with tempfile.TemporaryDirectory() as folder:
-        empty = 0 if words.quick else instructions(words.program, "summary", scene("empty", 0, folder), folder)
-        for kind, n, form in KINDS:
+        empty = 0 if words.quick else instructions(words.program, "serial", "summary", scene("empty", 0, folder), folder)
+        for kind, n, command, form in KINDS:
             if words.only and words.only != kind:
                 continue
             one, two = (scene(kind, count, folder) for count in (n, 2 * n))
-            fast, slow = seconds(words.program, form, one), seconds(words.program, form, two)
-            line = f"{kind}: processor time {fast:.3f} s at {n}, {slow:.3f} s at {2 * n}, ratio {slow / max(fast, 1e-6):.2f}"
+            fast, slow = seconds(words.program, command, form, one), seconds(words.program, command, form, two)
+            line = f"{kind}, {command}: processor time {fast:.3f} s at {n}, {slow:.3f} s at {2 * n}, ratio {slow / max(fast, 1e-6):.2f}"
             if not words.quick:
-                few, many = (instructions(words.program, form, path, folder) - empty for path in (one, two))
+                few, many = (instructions(words.program, command, form, path, folder) - empty for path in (one, two))
                 line += f"; instructions {few:,} at {n}, {many:,} at {2 * n}, ratio {many / max(few, 1):.2f}"
             print(line, flush=True)
 
