@@ -1,0 +1,90 @@
+#!/usr/bin/env python3
+"""Runs scenes on threads and replays what came.
+
+  replay_runs.py [--program PATH] [--times N] [FOLDER..]        examples/ and tests/, where no folder is given
+
+Each scene without faults is run N times (4) by `run`. The turns of the history that it prints are then listed under the same
+scene and taken by `replay`, which must print the same bytes. A run that does not end within 20 seconds is told as one that
+hangs. The last line counts the runs, those that were replayed otherwise, those that hang, and those whose history is not that
+of the serial order. Run by hand: which turns come is not fixed."""
+import argparse
+import glob
+import os
+import subprocess
+
+HERE = os.path.dirname(os.path.abspath(__file__))
+PROGRAM = os.path.join(HERE, "..", "crates", "trusty_main", "out", "trusty_main")
+FOLDERS = [os.path.join(HERE, "..", name) for name in ("examples", "tests")]
+
+
+def printed(program, command, scene):
+    said = subprocess.run([program, command], input=scene, stdout=subprocess.PIPE, timeout=20)
+    return said.returncode, said.stdout
+
+
+def without_turns(scene):
+    lines = scene.split(b"\n")
+    for at, line in enumerate(lines):
+        if line.split() == [b"turns"]:
+            lines = lines[:at] + [b""]
+            break
+    return b"\n".join(lines) if lines[-1] == b"" else b"\n".join(lines) + b"\n"
+
+
+def actors(scene):
+    """The numbers of the threads by their names in reports."""
+    numbers, app, threads = {}, None, 0
+    for line in scene.split(b"\n") + [b"app"]:
+        words = line.split()
+        if words[:1] == [b"thread"]:
+            numbers[app + b".%d" % threads] = len(numbers)
+            threads += 1
+        elif words[:1] == [b"app"]:
+            if app is not None and threads == 0:
+                numbers[app + b".0"] = len(numbers)
+            app, threads = words[1] if len(words) > 1 else None, 0
+    return numbers
+
+
+def turns(history, numbers):
+    listed = []
+    for line in history.split(b"\n")[1:]:
+        words = line.split(b" ")
+        if words[0] == b"end":
+            return listed
+        listed.append({b"idle": b"I", b"device": b"D"}.get(words[1]) or b"%d" % numbers[words[1]])
+    return listed
+
+
+def main():
+    parser = argparse.ArgumentParser(description=__doc__, formatter_class=argparse.RawDescriptionHelpFormatter)
+    parser.add_argument("--program", default=PROGRAM)
+    parser.add_argument("--times", type=int, default=4)
+    parser.add_argument("folders", nargs="*", default=FOLDERS)
+    words = parser.parse_args()
+    runs = otherwise = hang = unlike = 0
+    for path in sorted(path for folder in words.folders for path in glob.glob(os.path.join(folder, "*.scene"))):
+        with open(path, "rb") as file:
+            scene = without_turns(file.read())
+        status, serial = printed(words.program, "serial", scene)
+        if status != 0:
+            continue
+        numbers = actors(scene)
+        for _ in range(words.times):
+            runs += 1
+            try:
+                status, history = printed(words.program, "run", scene)
+            except subprocess.TimeoutExpired:
+                hang += 1
+                print(f"{path}: hangs")
+                continue
+            unlike += history != serial
+            listed = turns(history, numbers)
+            replayed = scene + b"turns\n" + b"".join(b" ".join(listed[at:at + 100]) + b"\n" for at in range(0, len(listed), 100))
+            if status != 0 or printed(words.program, "replay", replayed) != (0, history):
+                otherwise += 1
+                print(f"{path}: status {status}, or replayed otherwise")
+    print(f"{runs} runs: {otherwise} replayed otherwise, {hang} hang, {unlike} unlike the serial order")
+
+
+main()
