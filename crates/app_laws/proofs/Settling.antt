@@ -11,7 +11,7 @@ use Rattle.kernel_values.specs.declared.state.TableEntry.{TableEntry}
 use Rattle.kernel_values.specs.declared.state.Thread.{Thread}
 use Rattle.kernel_types.specs.Applications.{application_ended, ended_activity, ended_app, ended_thread, is_over, is_started_again, started, started_app, started_as, started_thread, without_app}
 use Rattle.kernel_types.specs.Objects.{map_at, set_if}
-use Rattle.kernel_types.specs.Step.{cancelled_activity, core_idle}
+use Rattle.kernel_types.specs.CoreStep.{cancelled_activity, core_idle}
 use Rattle.kernel_types.specs.Tables.{table_changed}
 use Rattle.kernel_types.specs.Threads.{activity_changed}
 use Rattle.kernel_laws.proofs.Within.{all_map_at}

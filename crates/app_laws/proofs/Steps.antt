@@ -12,11 +12,12 @@ use Rattle.kernel_values.specs.declared.state.Activity.TheVariants as activity
 use Rattle.kernel_values.specs.declared.state.CoreState.{CoreState}
 use Rattle.kernel_values.specs.declared.state.State.{State}
 use Rattle.kernel_values.specs.declared.state.Thread.{Thread}
-use Rattle.kernel_values.specs.declared.state.World.{World}
+use Rattle.kernel_values.specs.declared.world.World.{World}
 use Rattle.kernel_types.specs.Applications.{after_finish, application_ended, ended_activity, exit, finish, is_elsewhere_or_over, is_over, thread_ended}
 use Rattle.kernel_types.specs.Objects.{map_at}
 use Rattle.kernel_types.specs.Outcome.{Outcome}
-use Rattle.kernel_types.specs.Step.{Stepped, act, begin_as, begin_of, core_begin, core_idle, core_resume, full_step, idle, idle_lawful, in_world, is_built_event, least_deadline, resume_as, resume_of, resumed, step, swept}
+use Rattle.kernel_types.specs.CoreStep.{act, begin_as, begin_of, core_begin, core_idle, core_resume, least_deadline, resume_as, resume_of, resumed, swept}
+use Rattle.kernel_types.specs.Step.{Stepped, full_step, idle, idle_lawful, in_world, is_built_event, step}
 use Rattle.kernel_types.specs.Sweep.{kept, pruned, sweep}
 use Rattle.kernel_types.specs.Threads.{running_activity, with_activity}
 use Rattle.kernel_types.specs.Waits.{end_of_wait}

@@ -10,7 +10,8 @@ use Rattle.kernel_values.specs.declared.reply.Reply.TheVariants as reply
 use Rattle.kernel_types.specs.declared.kernel.StepCause.TheVariants as kernel
 use Rattle.kernel_types.specs.OnLiterals.{kernel_on_literals}
 use Rattle.kernel_types.specs.Built.{is_built}
-use Rattle.kernel_types.specs.Step.{step, full_step, core_begin, core_resume, statuses, idle_lawful, movable}
+use Rattle.kernel_types.specs.CoreStep.{core_begin, core_resume}
+use Rattle.kernel_types.specs.Step.{step, full_step, statuses, idle_lawful, movable}
 use Rattle.kernel_types.specs.Waits.{thread_movable}
 use Rattle.kernel_types.specs.Facts.{status_at, is_client, is_at_end}
 use Rattle.kernel_types.specs.Kernel.{Did, CauseHolds, status_for}

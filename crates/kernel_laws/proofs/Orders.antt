@@ -7,7 +7,7 @@ use Rattle.kernel_values.specs.declared.state.State.{State}
 use Rattle.kernel_types.specs.Stories.{Story, IsInOrder, story_of, number_at}
 use Rattle.kernel_types.specs.History.{Legal, state_after}
 use Rattle.kernel_types.specs.Opening.{opening}
-use Rattle.kernel_types.specs.Step.{core_idle}
+use Rattle.kernel_types.specs.CoreStep.{core_idle}
 use Rattle.kernel_laws.proofs.Found.{found}
 use Rattle.kernel_laws.proofs.Tales.{in_order, told_begun, untold}
 use Rattle.kernel_values.specs.declared.state.CoreState.{CoreState}

@@ -16,7 +16,8 @@ use Rattle.kernel_types.specs.Messages.{with_message, with_opened, without_opene
 use Rattle.kernel_types.specs.Objects.{changed, is_there, on_body, on_end}
 use Rattle.kernel_types.specs.Opening.{opening}
 use Rattle.kernel_types.specs.Ports.{admitted, decided, end_is_admitted, new_server, publish, server_of}
-use Rattle.kernel_types.specs.Step.{Stepped, core_idle, step}
+use Rattle.kernel_types.specs.CoreStep.{core_idle}
+use Rattle.kernel_types.specs.Step.{Stepped, step}
 use Rattle.kernel_laws.specs.Numbers.{HasRisingNumbers, IsSpent, RisesFrom}
 use Rattle.kernel_laws.proofs.Found.{changed_cons, found, found_append, found_changed, found_filter, found_map}
 use Rattle.kernel_laws.proofs.Publishing.{servers_new}

@@ -4,10 +4,11 @@ use Rattle.std.proofs.lemmas.List.{length-map}
 use Rattle.kernel_values.specs.declared.entry.Event.{Event}
 use Rattle.kernel_values.specs.declared.entry.Entry.{Entry}
 use Rattle.kernel_values.specs.declared.state.Thread.{Thread}
-use Rattle.kernel_values.specs.declared.state.ClientState.{ClientState}
+use Rattle.kernel_values.specs.declared.world.ClientState.{ClientState}
 use Rattle.kernel_values.specs.declared.state.State.{State}
 use Rattle.kernel_types.specs.History.{next_state, state_after, state_or}
-use Rattle.kernel_types.specs.Step.{Stepped, step, statuses, status_of}
+use Rattle.kernel_types.specs.CoreStep.{status_of}
+use Rattle.kernel_types.specs.Step.{Stepped, step, statuses}
 use Rattle.kernel_laws.specs.Actors.{HasSameActors, kinds}
 use Rattle.kernel_laws.proofs.Standing.{StepStands, WorldIs, step_stands, step_world}
 

@@ -4,7 +4,7 @@ use Rattle.std.specs.Prelude.{slice_get}
 use Rattle.std.specs.Option.{option_map}
 use Rattle.kernel_values.specs.declared.state.CoreState.{CoreState}
 use Rattle.kernel_laws.proofs.Walk.{Kept, StepKeeps, step_keeps}
-use Rattle.kernel_values.specs.declared.state.World.{World}
+use Rattle.kernel_values.specs.declared.world.World.{World}
 use Rattle.kernel_types.specs.Objects.{map_at, set_if}
 use Rattle.kernel_types.specs.Tables.{table_changed}
 use Rattle.kernel_types.specs.Applications.{ended_activity, started, started_as, application_ended, is_started_again, without_app, started_app, started_thread, ended_app, ended_thread}
@@ -13,7 +13,8 @@ use Rattle.kernel_values.specs.declared.state.Application.{Application}
 use Rattle.kernel_types.specs.Threads.{activity_changed}
 use Rattle.kernel_values.specs.declared.entry.Event.{Event}
 use Rattle.kernel_values.specs.declared.state.State.{State}
-use Rattle.kernel_types.specs.Step.{Stepped, core_begin, core_resume, core_idle, idle, idle_lawful, in_world, is_built_event, full_step, step, cancelled_activity}
+use Rattle.kernel_types.specs.CoreStep.{core_begin, core_resume, core_idle, cancelled_activity}
+use Rattle.kernel_types.specs.Step.{Stepped, idle, idle_lawful, in_world, is_built_event, full_step, step}
 use Rattle.kernel_values.specs.declared.scene.Manifest.{Manifest}
 use Rattle.kernel_values.specs.declared.state.Thread.{Thread}
 use Rattle.kernel_values.specs.declared.entry.Event.TheVariants as event

@@ -2,7 +2,7 @@
 use Rattle.std.proofs.Common.{◌≡◌, ℕ, true, false, cond, Option, Some, None, refl}
 use Rattle.std.specs.Prelude.{slice_get}
 use Rattle.kernel_values.specs.declared.state.CoreState.{CoreState}
-use Rattle.kernel_types.specs.Step.{core_idle}
+use Rattle.kernel_types.specs.CoreStep.{core_idle}
 use Rattle.kernel_types.specs.Applications.{started, started_as, application_ended, is_started_again, without_app}
 
 pub same_started : (app : ℕ) (c : CoreState) → ((started app c).objects ≡ c.objects) × ((started app c).next ≡ c.next)

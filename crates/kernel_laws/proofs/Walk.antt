@@ -45,11 +45,12 @@ use Rattle.kernel_types.specs.Threads.{waits_on, with_activity, waiting_activity
 use Rattle.kernel_values.specs.declared.call.Call.{Call}
 use Rattle.kernel_values.specs.declared.entry.Event.{Event}
 use Rattle.kernel_values.specs.declared.state.Activity.{Activity}
-use Rattle.kernel_values.specs.declared.state.World.{World}
+use Rattle.kernel_values.specs.declared.world.World.{World}
 use Rattle.kernel_values.specs.declared.state.State.{State}
 use Rattle.kernel_types.specs.Reach.{is_in}
 use Rattle.kernel_types.specs.Sweep.{reached, pruned, pruned_port, kept, cut_end, sweep}
-use Rattle.kernel_types.specs.Step.{Stepped, act, swept, begin_as, begin_of, core_begin, resumed, resume_as, resume_of, core_resume, least_deadline, core_idle, idle, idle_lawful, in_world, is_built_event, full_step, step}
+use Rattle.kernel_types.specs.CoreStep.{act, swept, begin_as, begin_of, core_begin, resumed, resume_as, resume_of, core_resume, least_deadline, core_idle}
+use Rattle.kernel_types.specs.Step.{Stepped, idle, idle_lawful, in_world, is_built_event, full_step, step}
 use Rattle.kernel_values.specs.declared.entry.Seqs.{Seqs}
 use Rattle.kernel_values.specs.declared.errno.Errno.TheVariants as errno
 use Rattle.kernel_values.specs.declared.state.Body.TheVariants as body

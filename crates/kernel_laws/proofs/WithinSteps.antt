@@ -9,7 +9,7 @@ use Rattle.kernel_values.specs.declared.entry.Event.{Event}
 use Rattle.kernel_values.specs.declared.entry.Event.TheVariants as event
 use Rattle.kernel_values.specs.declared.state.Activity.{Activity}
 use Rattle.kernel_values.specs.declared.state.Activity.TheVariants as activity
-use Rattle.kernel_values.specs.declared.state.World.{World}
+use Rattle.kernel_values.specs.declared.world.World.{World}
 use Rattle.kernel_values.specs.declared.state.CoreState.{CoreState}
 use Rattle.kernel_values.specs.declared.state.State.{State}
 use Rattle.kernel_types.specs.Ports.{is_waiting}
@@ -21,7 +21,8 @@ use Rattle.kernel_types.specs.Outcome.{Outcome}
 use Rattle.kernel_types.specs.Reach.{is_in}
 use Rattle.kernel_types.specs.Sweep.{reached, pruned, pruned_port, kept, cut_end, sweep, is_live, is_marked}
 use Rattle.kernel_types.specs.Waits.{end_of_wait}
-use Rattle.kernel_types.specs.Step.{Stepped, act, swept, begin_as, begin_of, core_begin, resumed, resume_as, resume_of, core_resume, least_deadline, core_idle, idle, idle_lawful, in_world, is_built_event, full_step, step, idle_answer}
+use Rattle.kernel_types.specs.CoreStep.{act, swept, begin_as, begin_of, core_begin, resumed, resume_as, resume_of, core_resume, least_deadline, core_idle, idle_answer}
+use Rattle.kernel_types.specs.Step.{Stepped, idle, idle_lawful, in_world, is_built_event, full_step, step}
 use Rattle.kernel_types.specs.Limits.{FitsIn, Room, no_room, room_of, room_of_call, IsEndWithin, IsSmallAnswer}
 use Rattle.kernel_laws.proofs.Within.{Within, WithinCore, within_mapped, within_filtered, keeps_end, keeps_port}
 use Rattle.kernel_laws.proofs.WithinOthers.{cookie_fine, close_fine, dup_fine, set_fine, add_fine, del_fine, mod_fine, memref_fine, mread_fine, mwrite_fine, wait_fine, wait_any_fine, exit_fine, finish_fine}

@@ -3,7 +3,8 @@ use Rattle.std.proofs.Common.{◌≡◌, true, false, cond, Option, None, refl}
 use Rattle.kernel_values.specs.declared.entry.Event.{Event}
 use Rattle.kernel_values.specs.declared.entry.Event.TheVariants as event
 use Rattle.kernel_types.specs.Built.{is_built}
-use Rattle.kernel_types.specs.Step.{Stepped, step, full_step, core_begin, core_resume, statuses, idle_lawful, device_has_work}
+use Rattle.kernel_types.specs.CoreStep.{core_begin, core_resume}
+use Rattle.kernel_types.specs.Step.{Stepped, step, full_step, statuses, idle_lawful, device_has_work}
 use Rattle.kernel_types.specs.Kernel.{status_for}
 use Rattle.kernel_log.specs.Quiet.{quiet}
 

@@ -1,1 +1,4 @@
+mod DeviceTakesFrames
+mod DriverReadsFrames
+mod FramesByteForByte
 pub mod Reaching

@@ -1,8 +1,17 @@
 pub mod Applications
+pub mod Bridge
+pub mod Bridging
 pub mod Built
+pub mod Carried
+pub mod Clients
 pub mod Connects
+pub mod CoreStep
+pub mod Device
+pub mod Drains
+pub mod Errors
 pub mod Events
 pub mod Facts
+pub mod GuestMemory
 pub mod Handles
 pub mod History
 pub mod Kernel
@@ -18,6 +27,7 @@ pub mod Ports
 pub mod Reach
 pub mod Reports
 pub mod Scripts
+pub mod Sending
 pub mod Serial
 pub mod Sets
 pub mod Step

@@ -1,5 +1,5 @@
 -- How large the objects of a state are, and how much an answer holds.
-use Rattle.std.specs.Prelude.{◌≡◌, ◌≤◌, ℕ, true, length}
+use Rattle.std.specs.Prelude.{◌≡◌, ◌≤◌, ℕ, true, length, if◌then◌else◌}
 use Rattle.std.specs.List.{All}
 use Rattle.kernel_values.specs.declared.call.Call.{Call}
 use Rattle.kernel_values.specs.declared.call.Call.TheVariants as call
@@ -17,6 +17,9 @@ use Rattle.kernel_values.specs.declared.state.ChannelEnd.{ChannelEnd}
 use Rattle.kernel_values.specs.declared.state.Message.{Message}
 use Rattle.kernel_values.specs.declared.state.Port.{Port}
 use Rattle.kernel_values.specs.declared.state.State.{State}
+use Rattle.kernel_values.specs.declared.world.Connection.{Connection}
+use Rattle.kernel_types.specs.Facts.{is_client}
+use Rattle.kernel_types.specs.GuestMemory.{buffer_size}
 use Rattle.kernel_types.specs.Ports.{is_waiting}
 
 -- a message has at most 4,096 bytes and 8 parts
@@ -44,8 +47,13 @@ IsBodyWithin (body.End end) = IsEndWithin end
 IsBodyWithin (body.Set set) = length set.members ≤ 64
 IsBodyWithin (body.Memory memory) = length memory.bytes ≤ 65536
 
-abbrev pub IsWithinLimits : State → Type 0
-IsWithinLimits s = All (λ object. IsBodyWithin object.body) s.core.objects
+-- what came for a connection of the normal world came in one buffer each
+abbrev pub IsInboxWithin : Connection → Type 0
+IsInboxWithin connection = All (λ bytes. length bytes ≤ buffer_size) connection.inbox
+
+pub record IsWithinLimits (s : State) : Type 0 where
+  pub objects : All (λ object. IsBodyWithin object.body) s.core.objects
+  pub inboxes : All IsInboxWithin s.world.driver.connections
 
 -- how many bytes an answer holds
 
@@ -99,16 +107,23 @@ no_room = record { bytes = 0; handles = 0 }
 abbrev pub full_room : Room
 full_room = record { bytes = 65536; handles = 8 }
 
--- `read` and `mread` answer lists, and no other system call does
+-- a path
+abbrev pub path_room : Room
+path_room = record { bytes = 63; handles = 0 }
+
+-- `read`, `mread` and `nrecv` answer lists, and no other call does
 abbrev pub room_of_call : Call → Room
 room_of_call (call.Read chan id offset room parts) = full_room
 room_of_call (call.MemRead handle offset len) = full_room
+room_of_call (call.NsRecv conn timeout) = full_room
 room_of_call _ = no_room
 
--- the end of a thread's wait lists nothing
-abbrev pub room_of : Event → Room
-room_of (event.Begin actor start asked) = room_of_call asked
-room_of _ = no_room
+-- the end of a thread's wait lists nothing; that of a client's may be a receive, and the device may tell a path
+abbrev pub room_of : State → Event → Room
+room_of s (event.Begin actor start asked) = room_of_call asked
+room_of s (event.Resume actor start) = (if is_client s actor.0 then full_room else no_room)
+room_of s event.Device = path_room
+room_of s event.Idle = no_room
 
 pub record FitsIn (room : Room) (answer : Answer) : Type 0 where
   pub bytes : bytes_of answer ≤ room.bytes

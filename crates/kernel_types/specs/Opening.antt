@@ -1,17 +1,22 @@
 -- The state in which a scene begins.
-use Rattle.std.specs.Prelude.{ℕ, List, [], map, None, if◌then◌else◌, not}
-use Rattle.std.specs.List.{flat_map, enumerate_from}
+use Rattle.std.specs.Prelude.{ℕ, false, List, [], map, None, if◌then◌else◌, not}
+use Rattle.std.specs.List.{flat_map, enumerate_from, range_with_len}
 use Rattle.kernel_values.specs.declared.scene.App.{App}
+use Rattle.kernel_values.specs.declared.scene.Client.{Client}
 use Rattle.kernel_values.specs.declared.scene.Manifest.{Manifest}
-use Rattle.kernel_values.specs.declared.entry.ActorStatus.TheVariants as status
 use Rattle.kernel_values.specs.declared.state.Application.{Application}
 use Rattle.kernel_values.specs.declared.state.Thread.{Thread}
 use Rattle.kernel_values.specs.declared.state.Activity.{Activity}
 use Rattle.kernel_values.specs.declared.state.Activity.TheVariants as activity
 use Rattle.kernel_values.specs.declared.state.CoreState.{CoreState}
-use Rattle.kernel_values.specs.declared.state.World.{World}
 use Rattle.kernel_values.specs.declared.state.State.{State}
+use Rattle.kernel_values.specs.declared.world.ClientActivity.TheVariants as client_activity
+use Rattle.kernel_values.specs.declared.world.ClientState.{ClientState}
+use Rattle.kernel_values.specs.declared.world.Device.{Device}
+use Rattle.kernel_values.specs.declared.world.Driver.{Driver}
+use Rattle.kernel_values.specs.declared.world.World.{World}
 use Rattle.kernel_values.specs.SceneLaw.{SceneValue}
+use Rattle.kernel_types.specs.GuestMemory.{ring, buffer_count, opening_memory}
 
 -- an application starts with the scene unless its manifest defers it
 abbrev pub opening_starts : Manifest → ℕ
@@ -37,10 +42,46 @@ opening_core apps = record {
   bridged = [];
 }
 
+abbrev pub opening_device : ℕ → Device
+opening_device size = record {
+  to_normal = ring 0 size;
+  from_normal = ring 1 size;
+  entries = [];
+  refusals = [];
+  online = false;
+  broken = false;
+}
+
+-- the driver gave the buffers of queue 0, and those of queue 1 are free
+abbrev pub opening_driver : ℕ → Driver
+opening_driver size = record {
+  size = size;
+  seen_to_normal = 0;
+  seen_from_normal = 0;
+  free = range_with_len 0 (buffer_count size);
+  connections = [];
+}
+
 -- every client runs from the beginning
+abbrev pub opening_client : Client → ClientState
+opening_client client = record { activity = client_activity.Running 1 }
+
+-- the normal world before anything happens, with no client
+abbrev pub world_without_clients : ℕ → World
+world_without_clients size = record {
+  memory = opening_memory size;
+  device = opening_device size;
+  driver = opening_driver size;
+  clients = [];
+}
+
 abbrev pub opening_world : SceneValue → World
-opening_world scene = record { clients = map (λ client. record { status = status.Running 1 }) scene.clients }
+opening_world scene = record (world_without_clients scene.queue) { clients = map opening_client scene.clients }
 
 -- the clock is 0, and there are no objects
 unfoldable pub opening : SceneValue → State
 opening scene = record { core = opening_core scene.apps; world = opening_world scene }
+
+-- the scene without its clients
+abbrev pub without_clients : SceneValue → SceneValue
+without_clients scene = record scene { clients = [] }

@@ -1,9 +1,9 @@
--- One step of the kernel: which events are lawful in a state, and what each answers and leaves.
-use Rattle.std.specs.Prelude.{ℕ, Bool, true, false, List, [], ◌∷◌, ◌++◌, ◌==◌, ◌&&◌, not, map, min, Option, Some, None, slice_get, if◌then◌else◌}
+-- One step of the whole kernel: which events are lawful in a state, and what each answers and leaves. A thread's step is the
+-- core's, and leaves the world alone; a client's step leaves the core alone.
+use Rattle.std.specs.Prelude.{ℕ, Bool, true, false, List, [], ◌∷◌, ◌++◌, ◌-◌, ◌==◌, ◌&&◌, ◌||◌, not, nat_lt, length, map, Option, Some, None, slice_get, if◌then◌else◌}
 use Rattle.std.specs.List.{list_any}
-use Rattle.std.specs.Option.{option_map}
+use Rattle.std.specs.Option.{is_some, option_map}
 use Rattle.kernel_values.specs.declared.call.Call.{Call}
-use Rattle.kernel_values.specs.declared.call.Call.TheVariants as call
 use Rattle.kernel_values.specs.declared.entry.Event.{Event}
 use Rattle.kernel_values.specs.declared.entry.Event.TheVariants as event
 use Rattle.kernel_values.specs.declared.entry.Seqs.{Seqs}
@@ -11,92 +11,48 @@ use Rattle.kernel_values.specs.declared.entry.ActorStatus.{ActorStatus}
 use Rattle.kernel_values.specs.declared.entry.ActorStatus.TheVariants as status
 use Rattle.kernel_values.specs.declared.reply.Answer.{Answer}
 use Rattle.kernel_values.specs.declared.reply.Answer.TheVariants as answer
-use Rattle.kernel_values.specs.declared.state.Thread.{Thread}
-use Rattle.kernel_values.specs.declared.state.Activity.{Activity}
-use Rattle.kernel_values.specs.declared.state.Activity.TheVariants as activity
 use Rattle.kernel_values.specs.declared.state.CoreState.{CoreState}
-use Rattle.kernel_values.specs.declared.state.World.{World}
 use Rattle.kernel_values.specs.declared.state.State.{State}
-use Rattle.kernel_types.specs.Sweep.{sweep}
-use Rattle.kernel_types.specs.Ports.{port_create}
-use Rattle.kernel_types.specs.Connects.{connect, accept}
-use Rattle.kernel_types.specs.Messages.{send, get, read, put}
-use Rattle.kernel_types.specs.Handles.{set_cookie, close, dup}
-use Rattle.kernel_types.specs.Sets.{set_create, set_add, set_del, set_mod}
-use Rattle.kernel_types.specs.Memories.{mem_create, mem_read, mem_write}
-use Rattle.kernel_types.specs.Waits.{wait, wait_any, end_of_wait, thread_may_move, thread_movable}
-use Rattle.kernel_types.specs.Applications.{exit, finish}
-use Rattle.kernel_types.specs.Threads.{with_activity, running_activity, activity_changed}
-use Rattle.kernel_types.specs.Outcome.{Outcome}
+use Rattle.kernel_values.specs.declared.world.ClientActivity.{ClientActivity}
+use Rattle.kernel_values.specs.declared.world.ClientActivity.TheVariants as activity
+use Rattle.kernel_values.specs.declared.world.ClientState.{ClientState}
+use Rattle.kernel_values.specs.declared.world.World.{World}
 use Rattle.kernel_types.specs.Built.{is_built}
+use Rattle.kernel_types.specs.Clients.{Acted, ns_act, end_of_ns_wait, client_may_move, client_changed, with_client, client_running, client_cancelled}
+use Rattle.kernel_types.specs.CoreStep.{core_begin, core_resume, status_of, sooner, least_deadline, core_idle, idle_answer}
+use Rattle.kernel_types.specs.Device.{DeviceStep, device_step}
+use Rattle.kernel_types.specs.Drains.{drained}
+use Rattle.kernel_types.specs.Outcome.{Outcome, no_seqs}
+use Rattle.kernel_types.specs.Sweep.{sweep}
+use Rattle.kernel_types.specs.Waits.{thread_may_move, thread_movable}
 
--- a system call of a thread of the application `app`; the calls of the normal world are none
-unfoldable pub act : CoreState → ℕ → ℕ → Call → Option Outcome
-act c thread app (call.PortCreate path bufs size flags) = Some (port_create c app path bufs size flags)
-act c thread app (call.Connect path flags) = Some (connect c thread app path flags)
-act c thread app (call.Accept port) = Some (accept c app port)
-act c thread app (call.Send chan bytes parts) = Some (send c app chan bytes parts)
-act c thread app (call.Get chan) = Some (get c app chan)
-act c thread app (call.Read chan id offset room parts) = Some (read c app chan id offset room parts)
-act c thread app (call.Put chan id) = Some (put c app chan id)
-act c thread app (call.SetCookie handle cookie) = Some (set_cookie c app handle cookie)
-act c thread app (call.Close handle) = Some (close c app handle)
-act c thread app (call.Dup handle) = Some (dup c app handle)
-act c thread app call.SetCreate = Some (set_create c app)
-act c thread app (call.SetAdd set handle mask cookie) = Some (set_add c app set handle mask cookie)
-act c thread app (call.SetDel set label) = Some (set_del c app set label)
-act c thread app (call.SetMod set label mask cookie) = Some (set_mod c app set label mask cookie)
-act c thread app (call.MemCreate size flags) = Some (mem_create c app size flags)
-act c thread app (call.MemRead handle offset len) = Some (mem_read c app handle offset len)
-act c thread app (call.MemWrite handle offset bytes) = Some (mem_write c app handle offset bytes)
-act c thread app (call.Wait handle timeout) = Some (wait c thread app handle timeout)
-act c thread app (call.WaitAny timeout) = Some (wait_any c thread app timeout)
-act c thread app (call.Exit code) = Some (exit c app)
-act c thread app call.Finish = Some (finish c thread app)
-act c thread app _ = None
+pub record Stepped : Type 0 where
+  pub answer : Answer
+  pub seqs : Seqs
+  pub state : State
 
--- what nothing reaches any more ends with the step
-abbrev pub swept : Outcome → Outcome
-swept outcome = record outcome { core = sweep outcome.core }
+abbrev pub in_world : World → Outcome → Stepped
+in_world world outcome = record { answer = outcome.answer; seqs = outcome.seqs; state = record { core = outcome.core; world = world } }
 
--- a call of a thread that runs, by its present start
-abbrev pub begin_as : CoreState → ℕ → ℕ → Call → ℕ → Activity → Option Outcome
-begin_as c thread start call app (activity.Running running) = (if running == start then option_map swept (act c thread app call) else None)
-begin_as c thread start call app other = None
+abbrev pub beside_core : CoreState → Acted → Stepped
+beside_core c acted = record { answer = acted.answer; seqs = no_seqs; state = record { core = c; world = acted.world } }
 
-abbrev pub begin_of : CoreState → ℕ → ℕ → Call → Option Thread → Option Outcome
-begin_of c at start call None = None
-begin_of c at start call (Some thread) = begin_as c at start call thread.app thread.activity
+-- Actors: the threads come first, then the clients.
 
-unfoldable pub core_begin : CoreState → ℕ → ℕ → Call → Option Outcome
-core_begin c thread start call = begin_of c thread start call (slice_get c.threads thread)
+abbrev pub is_thread : State → ℕ → Bool
+is_thread s actor = nat_lt actor (length s.core.threads)
 
--- the end of a wait of a thread, by its present start: the thread runs again
-abbrev pub resumed : ℕ → Outcome → Outcome
-resumed thread outcome = record outcome { core = sweep (with_activity running_activity thread outcome.core) }
+-- the client with this number among the actors
+abbrev pub client_number : State → ℕ → ℕ
+client_number s actor = actor - length s.core.threads
 
-abbrev pub resume_as : CoreState → ℕ → ℕ → ℕ → Activity → Option Outcome
-resume_as c thread start app (activity.Waiting waiting wait) = (if waiting == start then option_map (resumed thread) (end_of_wait c app wait) else None)
-resume_as c thread start app other = None
+abbrev pub client_status : ClientActivity → ActorStatus
+client_status (activity.Running start) = status.Running start
+client_status (activity.Waiting start wait) = status.Waiting start
+client_status (activity.Ended start) = status.Ended start
 
-abbrev pub resume_of : CoreState → ℕ → ℕ → Option Thread → Option Outcome
-resume_of c at start None = None
-resume_of c at start (Some thread) = resume_as c at start thread.app thread.activity
-
-unfoldable pub core_resume : CoreState → ℕ → ℕ → Option Outcome
-core_resume c thread start = resume_of c thread start (slice_get c.threads thread)
-
--- What actors do.
-
-abbrev pub status_of : Activity → ActorStatus
-status_of activity.Off = status.Off
-status_of (activity.Running start) = status.Running start
-status_of (activity.Waiting start wait) = status.Waiting start
-status_of (activity.Ended start) = status.Ended start
-
--- every actor's status: the threads', then the clients'
 unfoldable pub statuses : State → List ActorStatus
-statuses s = map (λ thread. status_of thread.activity) s.core.threads ++ map (λ client. client.status) s.world.clients
+statuses s = map (λ thread. status_of thread.activity) s.core.threads ++ map (λ client. client_status client.activity) s.world.clients
 
 abbrev pub has_begun_and_goes_on : ActorStatus → Bool
 has_begun_and_goes_on (status.Running start) = true
@@ -107,72 +63,107 @@ abbrev pub is_running : ActorStatus → Bool
 is_running (status.Running start) = true
 is_running other = false
 
--- there is no device yet, so it never has work
+-- A call of a client that runs, by its present start.
+
+abbrev pub client_call_as : State → ℕ → ℕ → Call → ClientActivity → Option Acted
+client_call_as s client start call (activity.Running running) = (if running == start then ns_act s.core.clock client call s.world else None)
+client_call_as s client start call other = None
+
+abbrev pub client_call_of : State → ℕ → ℕ → Call → Option ClientState → Option Acted
+client_call_of s client start call None = None
+client_call_of s client start call (Some state) = client_call_as s client start call state.activity
+
+unfoldable pub client_begin : State → ℕ → ℕ → Call → Option Acted
+client_begin s client start call = client_call_of s client start call (slice_get s.world.clients client)
+
+-- The end of a client's wait, by its present start: the client runs again.
+
+abbrev pub runs_again : ℕ → Acted → Acted
+runs_again client acted = record acted { world = with_client client_running client acted.world }
+
+abbrev pub client_resume_as : State → ℕ → ℕ → ClientActivity → Option Acted
+client_resume_as s client start (activity.Waiting waiting wait) =
+    (if waiting == start then option_map (runs_again client) (end_of_ns_wait s.core.clock wait (drained s.world)) else None)
+client_resume_as s client start other = None
+
+abbrev pub client_resume_of : State → ℕ → ℕ → Option ClientState → Option Acted
+client_resume_of s client start None = None
+client_resume_of s client start (Some state) = client_resume_as s client start state.activity
+
+unfoldable pub client_resume : State → ℕ → ℕ → Option Acted
+client_resume s client start = client_resume_of s client start (slice_get s.world.clients client)
+
+-- Which actors and whether the device can take a turn.
+
 unfoldable pub device_has_work : State → Bool
-device_has_work s = false
+device_has_work s = is_some (device_step s)
 
--- whether an actor waits and may move; the calls of clients are not built yet, so none of them waits
+abbrev pub client_may_move_if : State → Option ClientState → Bool
+client_may_move_if s None = false
+client_may_move_if s (Some client) = client_may_move s.core.clock s.world client.activity
+
+unfoldable pub client_movable : State → ℕ → Bool
+client_movable s client = client_may_move_if s (slice_get s.world.clients client)
+
+-- whether an actor waits and may move
 unfoldable pub movable : State → ℕ → Bool
-movable s actor = thread_movable s.core actor
+movable s actor = (if is_thread s actor then thread_movable s.core actor else client_movable s (client_number s actor))
 
--- Idle: some actor that was started has not ended, every such actor waits, none may move, and the device has no work
+-- Idle: some actor that was started has not ended, every such actor waits, none may move, and the device has no work.
+
+abbrev pub any_may_move : State → Bool
+any_may_move s = list_any (thread_may_move s.core) s.core.threads
+    || list_any (λ client. client_may_move s.core.clock s.world client.activity) s.world.clients
 
 unfoldable pub idle_lawful : State → Bool
 idle_lawful s = list_any has_begun_and_goes_on (statuses s) && not (list_any is_running (statuses s))
-    && not (list_any (thread_may_move s.core) s.core.threads) && not (device_has_work s)
+    && not (any_may_move s) && not (device_has_work s)
 
-abbrev pub sooner : Option ℕ → Option ℕ → Option ℕ
-sooner None other = other
-sooner (Some one) None = Some one
-sooner (Some one) (Some other) = Some (min one other)
+abbrev pub client_deadline : ClientActivity → Option ℕ
+client_deadline (activity.Waiting start wait) = wait.deadline
+client_deadline other = None
 
-abbrev pub deadline_in : Activity → Option ℕ
-deadline_in (activity.Waiting start wait) = wait.deadline
-deadline_in other = None
+abbrev pub least_client_deadline : List ClientState → Option ℕ
+least_client_deadline [] = None
+least_client_deadline (client ∷ clients) = sooner (client_deadline client.activity) (least_client_deadline clients)
 
--- the least deadline of all waits
-abbrev pub least_deadline_of : List Thread → Option ℕ
-least_deadline_of [] = None
-least_deadline_of (thread ∷ threads) = sooner (deadline_in thread.activity) (least_deadline_of threads)
+-- the least deadline of all waits, of threads and clients
+unfoldable pub next_deadline : State → Option ℕ
+next_deadline s = sooner (least_deadline s.core) (least_client_deadline s.world.clients)
 
-unfoldable pub least_deadline : CoreState → Option ℕ
-least_deadline c = least_deadline_of c.threads
+-- where no wait has a deadline, every wait is cancelled
+unfoldable pub world_idle : Option ℕ → World → World
+world_idle (Some deadline) w = w
+world_idle None w = record w { clients = map (client_changed client_cancelled) w.clients }
 
-abbrev pub cancelled_activity : Activity → Activity
-cancelled_activity (activity.Waiting start wait) = activity.Waiting start (record wait { cancelled = true })
-cancelled_activity other = other
-
--- the clock moves to the least deadline; where no wait has one, every wait is cancelled
-unfoldable pub core_idle : Option ℕ → CoreState → CoreState
-core_idle (Some deadline) c = record c { clock = deadline }
-core_idle None c = record c { threads = map (activity_changed cancelled_activity) c.threads }
-
-abbrev pub idle_answer : Option ℕ → Answer
-idle_answer (Some deadline) = answer.Clock deadline
-idle_answer None = answer.CancelAll
-
--- What a step comes to, in the whole state.
-
-pub record Stepped : Type 0 where
-  pub answer : Answer
-  pub seqs : Seqs
-  pub state : State
-
-abbrev pub in_world : World → Outcome → Stepped
-in_world world outcome = record { answer = outcome.answer; seqs = outcome.seqs; state = record { core = outcome.core; world = world } }
+abbrev pub idle_until : Option ℕ → State → Stepped
+idle_until deadline s = record {
+  answer = idle_answer deadline;
+  seqs = no_seqs;
+  state = record { core = sweep (core_idle deadline s.core); world = world_idle deadline s.world };
+}
 
 abbrev pub idle : State → Stepped
-idle s = record {
-  answer = idle_answer (least_deadline s.core);
-  seqs = record { sent = None; opened = None; retired = None };
-  state = record s { core = sweep (core_idle (least_deadline s.core) s.core) };
-}
+idle s = idle_until (next_deadline s) s
+
+abbrev pub device_stepped : DeviceStep → Stepped
+device_stepped done = record { answer = answer.Device done.reply; seqs = done.seqs; state = done.state }
+
+abbrev pub begin : State → ℕ → ℕ → Call → Option Stepped
+begin s actor start call =
+    (if is_thread s actor then option_map (in_world s.world) (core_begin s.core actor start call)
+    else option_map (beside_core s.core) (client_begin s (client_number s actor) start call))
+
+abbrev pub resume : State → ℕ → ℕ → Option Stepped
+resume s actor start =
+    (if is_thread s actor then option_map (in_world s.world) (core_resume s.core actor start)
+    else option_map (beside_core s.core) (client_resume s (client_number s actor) start))
 
 -- the step of an event, or nothing where the event is not lawful
 unfoldable pub full_step : State → Event → Option Stepped
-full_step s (event.Begin actor start call) = option_map (in_world s.world) (core_begin s.core actor.0 start call)
-full_step s (event.Resume actor start) = option_map (in_world s.world) (core_resume s.core actor.0 start)
-full_step s event.Device = None
+full_step s (event.Begin actor start call) = begin s actor.0 start call
+full_step s (event.Resume actor start) = resume s actor.0 start
+full_step s event.Device = option_map device_stepped (device_step s)
 full_step s event.Idle = (if idle_lawful s then Some (idle s) else None)
 
 -- a call that no kernel has a body for yet is not lawful

@@ -44,7 +44,7 @@ pub trait IpcKernel {
     fn step(&mut self, event: Event) -> Result<Entry, StepRefused>
         ensures done { IfOk result (λ entry. Did event (state self.old) (state self.new) (made self.old) (made self.new) entry) }
         ensures refused { IfErr result (λ refused. Refused event (state self.old) (state self.new) (made self.old) (made self.new) refused) }
-        ensures fits { IfOk result (λ entry. FitsIn (room_of event) entry.answer) }
+        ensures fits { IfOk result (λ entry. FitsIn (room_of (state self.old) event) entry.answer) }
         ensures spared { IfErr result (λ refused. spares self.old event → refused.cause ≢ StepCause.NoMemory) };
 
     /// What an actor of the scene does.

@@ -17,6 +17,7 @@ pub mod script;
 pub mod state;
 #[cfg(test)]
 mod tests;
+pub mod world;
 
 pub use call::{Call, Timeout};
 pub use copied::Copied;
@@ -33,7 +34,10 @@ pub use scene::{
 };
 pub use script::{Command, RegList, RegRead, RegReadList, Script};
 pub use state::{
-    Activity, Application, Body, ChannelEnd, ClientState, Connector, CoreState, EndState,
-    HandleSet, Member, MemoryRef, Message, Object, Port, State, TableEntry, Thread, Wait, WaitOn,
-    World,
+    Activity, Application, Body, ChannelEnd, Connector, CoreState, EndState, HandleSet, Member,
+    MemoryRef, Message, Object, Port, State, TableEntry, Thread, Wait, WaitOn,
+};
+pub use world::{
+    BridgeEntry, ClientActivity, ClientState, ClientWait, ClientWaitOn, Connection,
+    ConnectionStatus, Device, Driver, Refusal, World,
 };

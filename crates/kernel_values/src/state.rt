@@ -3,10 +3,10 @@
 //! in their set's order, and messages in the order in which they were sent.
 
 use crate::copied::Copied;
-use crate::entry::ActorStatus;
 use crate::flags::{Events, MemFlags, PortFlags};
 use crate::items::{Bytes, Items, NoMemory};
 use crate::scene::Manifest;
+use crate::world::World;
 
 /// The whole state: the kernel without the normal world, and the normal world.
 #[derive(Debug, Drop)]
@@ -27,18 +27,6 @@ pub struct CoreState {
     pub clock: u64,
     /// The ends that entries of the bridge name.
     pub bridged: Items<u64>,
-}
-
-/// The normal world: its clients.
-#[derive(Debug, Drop)]
-pub struct World {
-    pub clients: Items<ClientState>,
-}
-
-/// What a client of the normal world does.
-#[derive(Debug, Drop)]
-pub struct ClientState {
-    pub status: ActorStatus,
 }
 
 /// An application: what it was registered with, how often it was started, whether it runs, its

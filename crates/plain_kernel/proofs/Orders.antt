@@ -4,7 +4,7 @@ use Rattle.kernel_values.specs.SceneLaw.{SceneValue}
 use Rattle.kernel_values.specs.declared.entry.Event.{Event}
 use Rattle.kernel_values.specs.declared.state.CoreState.{CoreState}
 use Rattle.kernel_values.specs.declared.state.State.{State}
-use Rattle.kernel_values.specs.declared.state.World.{World}
+use Rattle.kernel_values.specs.declared.world.World.{World}
 use Rattle.kernel_types.specs.Limits.{FitsIn, room_of, IsWithinLimits}
 use Rattle.kernel_types.specs.Opening.{opening, opening_core, opening_world}
 use Rattle.kernel_laws.proofs.Small.{opening_within, steps_fit, steps_within}

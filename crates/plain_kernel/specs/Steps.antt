@@ -1,11 +1,12 @@
 -- A step of the program in the whole state.
 use Rattle.std.specs.Prelude.{Option, Some, None}
 use Rattle.kernel_values.specs.declared.state.CoreState.{CoreState}
-use Rattle.kernel_values.specs.declared.state.World.{World}
+use Rattle.kernel_values.specs.declared.world.World.{World}
 use Rattle.kernel_values.specs.declared.state.State.{State}
 use Rattle.plain_kernel.specs.declared.told.Told.{Told}
 use Rattle.kernel_types.specs.Outcome.{Outcome, no_seqs}
-use Rattle.kernel_types.specs.Step.{Stepped, least_deadline, core_idle, idle_answer}
+use Rattle.kernel_types.specs.CoreStep.{least_deadline, core_idle, idle_answer}
+use Rattle.kernel_types.specs.Step.{Stepped}
 use Rattle.kernel_types.specs.Sweep.{sweep}
 
 abbrev pub whole : CoreState → World → State

@@ -1,7 +1,8 @@
 //! What a kernel tells of its state.
 
 ghost use Rattle.std.specs.Prelude.{◌≡◌, OnOk, ◌++◌, map, IfOk, sum_by, not};
-ghost use Rattle.kernel_types.specs.Step.{status_of, statuses, has_begun_and_goes_on, is_running};
+ghost use Rattle.kernel_types.specs.CoreStep.{status_of};
+ghost use Rattle.kernel_types.specs.Step.{statuses, has_begun_and_goes_on, is_running};
 ghost use Rattle.plain_kernel.specs.Steps.{whole};
 ghost use Rattle.plain_kernel.specs.Tests.{names_on};
 ghost use Rattle.kernel_types.specs.Names.{naming};

@@ -3,7 +3,8 @@
 ghost use Rattle.std.specs.Prelude.{◌≡◌, IfOk, map, OnOk};
 ghost use Rattle.kernel_types.specs.Built.{is_built};
 ghost use Rattle.plain_kernel.specs.Shown.{outcome_if, outcome};
-ghost use Rattle.kernel_types.specs.Step.{act, core_begin, core_resume, deadline_in, sooner, least_deadline_of, least_deadline, cancelled_activity, core_idle, idle_answer, idle_lawful, step};
+ghost use Rattle.kernel_types.specs.CoreStep.{act, core_begin, core_resume, deadline_in, sooner, least_deadline_of, least_deadline, cancelled_activity, core_idle, idle_answer};
+ghost use Rattle.kernel_types.specs.Step.{idle_lawful, step};
 ghost use Rattle.kernel_types.specs.Threads.{activity_changed};
 ghost use Rattle.plain_kernel.specs.Steps.{idle_outcome, whole, stepped_if};
 
@@ -45,7 +46,7 @@ fn is_built_call(call: &Call) -> bool
 }
 
 /// The call of a thread of `app`; the calls of the normal world are none.
-#[tactic(auto, unfolding(kernel_types::specs::Step::act))]
+#[tactic(auto, unfolding(kernel_types::specs::CoreStep::act))]
 fn act_on(
     core: &mut CoreState,
     thread: u32,
@@ -110,7 +111,7 @@ fn act_on(
 }
 
 /// A call of a thread that runs, by its present start.
-#[tactic(auto, unfolding(kernel_types::specs::Step::core_begin))]
+#[tactic(auto, unfolding(kernel_types::specs::CoreStep::core_begin))]
 fn begin(
     core: &mut CoreState,
     thread: u32,
@@ -137,7 +138,7 @@ fn begin(
 }
 
 /// The end of a wait of a thread, by its present start: the thread runs again.
-#[tactic(auto, unfolding(kernel_types::specs::Step::core_resume))]
+#[tactic(auto, unfolding(kernel_types::specs::CoreStep::core_resume))]
 fn resume(core: &mut CoreState, thread: u32, start: u32) -> Result<Option<Told>, NoMemory>
     ensures { IfOk result (λ told. outcome_if told core.new ≡ core_resume core.old thread start) }
 {
@@ -192,7 +193,7 @@ fn least_deadline_of(threads: &[Thread]) -> Option<u64>
 }
 
 /// The least deadline of all waits.
-#[tactic(auto, unfolding(kernel_types::specs::Step::least_deadline))]
+#[tactic(auto, unfolding(kernel_types::specs::CoreStep::least_deadline))]
 fn least_deadline(core: &CoreState) -> Option<u64>
     ensures { result ≡ least_deadline core.now }
 {
@@ -226,7 +227,7 @@ fn all_cancelled(alloc: Global, threads: &[Thread]) -> Result<Items<Thread>, NoM
 }
 
 /// The clock moves to the deadline; without one, every wait is cancelled.
-#[tactic(auto, unfolding(kernel_types::specs::Step::core_idle))]
+#[tactic(auto, unfolding(kernel_types::specs::CoreStep::core_idle))]
 fn idle_by(core: &mut CoreState, deadline: Option<u64>) -> Result<(), NoMemory>
     ensures { OnOk result (core.new ≡ core_idle deadline core.old) }
 {

@@ -16,7 +16,7 @@ use Rattle.kernel_values.specs.declared.scene.Client.{Client}
 use Rattle.kernel_values.specs.declared.script.Command.{Command}
 use Rattle.kernel_values.specs.declared.state.Activity.{Activity}
 use Rattle.kernel_values.specs.declared.state.Activity.TheVariants as activity
-use Rattle.kernel_values.specs.declared.state.ClientState.{ClientState}
+use Rattle.kernel_values.specs.declared.world.ClientState.{ClientState}
 use Rattle.kernel_values.specs.declared.state.CoreState.{CoreState}
 use Rattle.kernel_values.specs.declared.state.State.{State}
 use Rattle.kernel_values.specs.declared.state.Thread.{Thread}
@@ -24,7 +24,8 @@ use Rattle.kernel_values.specs.declared.entry.ActorStatus.TheVariants as status
 use Rattle.kernel_types.specs.History.{step_entry, entry_of, next_state, state_or}
 use Rattle.kernel_types.specs.Opening.{opening, opening_threads, opening_activity}
 use Rattle.kernel_types.specs.Outcome.{Outcome}
-use Rattle.kernel_types.specs.Step.{Stepped, step, full_step, is_built_event, core_begin, begin_of, begin_as, core_resume, resume_of, resume_as, act, swept, resumed}
+use Rattle.kernel_types.specs.CoreStep.{core_begin, begin_of, begin_as, core_resume, resume_of, resume_as, act, swept, resumed}
+use Rattle.kernel_types.specs.Step.{Stepped, step, full_step, is_built_event}
 use Rattle.kernel_types.specs.Waits.{end_of_wait}
 use Rattle.kernel_laws.specs.Actors.{HasSameActors, kinds}
 use Rattle.kernel_laws.proofs.SameActors.{steps_keep}

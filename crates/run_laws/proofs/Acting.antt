@@ -24,7 +24,7 @@ use Rattle.kernel_types.specs.Objects.{memory_of}
 use Rattle.kernel_types.specs.Outcome.{Outcome}
 use Rattle.kernel_types.specs.Ports.{admits}
 use Rattle.kernel_types.specs.Reports.{Reported, report_of}
-use Rattle.kernel_types.specs.Step.{act}
+use Rattle.kernel_types.specs.CoreStep.{act}
 use Rattle.kernel_types.specs.Tables.{table_of, entry_at, is_full, install, free_handle}
 use Rattle.kernel_types.specs.Threads.{with_activity, waiting_activity, new_wait, waits_on}
 use Rattle.kernel_types.specs.Waits.{wait, wait_entry, wait_any, wait_or_report, is_zero_timeout, can_have_events, deadline_of}

@@ -14,7 +14,7 @@ use Rattle.kernel_values.specs.declared.state.CoreState.{CoreState}
 use Rattle.kernel_types.specs.Built.{is_built}
 use Rattle.kernel_types.specs.Outcome.{Outcome}
 use Rattle.kernel_types.specs.Scripts.{Stand, with_number, read_register, value_in, call_of, call_at, next_call, answered, stand_after, is_exit}
-use Rattle.kernel_types.specs.Step.{act}
+use Rattle.kernel_types.specs.CoreStep.{act}
 use Rattle.run_laws.proofs.Acting.{is_ending}
 use Rattle.run_laws.proofs.Places.{IsCallable, HasCall, HasCommand}
 

@@ -15,7 +15,7 @@ use Rattle.kernel_types.specs.Applications.{started, started_as, started_app, st
 use Rattle.kernel_types.specs.Built.{is_built}
 use Rattle.kernel_types.specs.Objects.{set_if, map_at}
 use Rattle.kernel_types.specs.Scripts.{Stand, script_begin, stand_on, is_exit}
-use Rattle.kernel_types.specs.Step.{cancelled_activity, core_idle}
+use Rattle.kernel_types.specs.CoreStep.{cancelled_activity, core_idle}
 use Rattle.kernel_types.specs.Threads.{with_activity, activity_changed, waiting_activity, running_activity}
 use Rattle.kernel_types.specs.Whole.{answers_in}
 use Rattle.runners.proofs.Quiet.{Quiet, starts_of, starts_stay}

@@ -21,7 +21,8 @@ use Rattle.kernel_types.specs.Applications.{exit, finish, application_ended, thr
 use Rattle.kernel_types.specs.Built.{is_built}
 use Rattle.kernel_types.specs.Objects.{map_at}
 use Rattle.kernel_types.specs.Outcome.{Outcome}
-use Rattle.kernel_types.specs.Step.{act, swept, core_begin, resumed, core_resume, core_idle, least_deadline, full_step, step, in_world, idle, idle_lawful}
+use Rattle.kernel_types.specs.CoreStep.{act, swept, core_begin, resumed, core_resume, core_idle, least_deadline}
+use Rattle.kernel_types.specs.Step.{full_step, step, in_world, idle, idle_lawful}
 use Rattle.kernel_types.specs.Sweep.{sweep, kept, pruned}
 use Rattle.kernel_types.specs.Threads.{with_activity, activity_changed, running_activity}
 use Rattle.kernel_types.specs.Waits.{end_of_wait}

@@ -12,14 +12,15 @@ use Rattle.kernel_values.specs.declared.scene.Turn.TheVariants as turn
 use Rattle.kernel_values.specs.declared.script.Command.{Command}
 use Rattle.kernel_values.specs.declared.state.Activity.{Activity}
 use Rattle.kernel_values.specs.declared.state.Activity.TheVariants as activity
-use Rattle.kernel_values.specs.declared.state.ClientState.{ClientState}
+use Rattle.kernel_values.specs.declared.world.ClientState.{ClientState}
 use Rattle.kernel_values.specs.declared.state.State.{State}
 use Rattle.kernel_values.specs.declared.state.Thread.{Thread}
 use Rattle.kernel_values.specs.declared.state.Wait.{Wait}
 use Rattle.kernel_types.specs.Facts.{status_at}
 use Rattle.kernel_types.specs.Outcome.{Outcome}
 use Rattle.kernel_types.specs.Scripts.{next_call}
-use Rattle.kernel_types.specs.Step.{Stepped, act, step, full_step, statuses, status_of, swept, resumed, in_world, idle, idle_lawful, device_has_work, movable}
+use Rattle.kernel_types.specs.CoreStep.{act, status_of, swept, resumed}
+use Rattle.kernel_types.specs.Step.{Stepped, step, full_step, statuses, in_world, idle, idle_lawful, device_has_work, movable}
 use Rattle.kernel_types.specs.Turns.{Run, grown, event_of, run_event, run_turn, takes_turn, kernel_turn, begin_by_script, begin_if, event_by_status}
 use Rattle.kernel_types.specs.Waits.{end_of_wait, thread_movable}
 use Rattle.run_laws.proofs.Calling.{IsNext, next_of, outcome_of, some_of}

@@ -33,7 +33,8 @@ use Rattle.kernel_types.specs.Objects.{set_if, map_at, end_of, memory_of, set_of
 use Rattle.kernel_types.specs.Outcome.{Outcome}
 use Rattle.kernel_types.specs.Ports.{admits}
 use Rattle.kernel_types.specs.Reports.{Reported, report_of, set_or_plain_report, member_report, entry_report}
-use Rattle.kernel_types.specs.Step.{Stepped, act, swept, begin_as, begin_of, core_begin, resumed, resume_as, resume_of, core_resume, statuses, idle_lawful, core_idle, cancelled_activity, least_deadline, full_step, step, in_world, is_built_event}
+use Rattle.kernel_types.specs.CoreStep.{act, swept, begin_as, begin_of, core_begin, resumed, resume_as, resume_of, core_resume, core_idle, cancelled_activity, least_deadline}
+use Rattle.kernel_types.specs.Step.{Stepped, statuses, idle_lawful, full_step, step, in_world, is_built_event}
 use Rattle.kernel_types.specs.Sweep.{sweep, kept, pruned}
 use Rattle.kernel_types.specs.Tables.{table_of, entry_at, is_full, install}
 use Rattle.kernel_types.specs.Threads.{with_activity, activity_changed}

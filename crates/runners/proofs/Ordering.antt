@@ -13,11 +13,12 @@ use Rattle.kernel_values.specs.declared.entry.ActorStatus.TheVariants as status
 use Rattle.kernel_values.specs.declared.scene.Turn.TheVariants as turn
 use Rattle.kernel_values.specs.declared.state.Activity.{Activity}
 use Rattle.kernel_values.specs.declared.state.Activity.TheVariants as activity
-use Rattle.kernel_values.specs.declared.state.ClientState.{ClientState}
+use Rattle.kernel_values.specs.declared.world.ClientState.{ClientState}
 use Rattle.kernel_values.specs.declared.state.State.{State}
 use Rattle.kernel_values.specs.declared.state.Thread.{Thread}
 use Rattle.kernel_types.specs.Facts.{status_at, is_at_end}
-use Rattle.kernel_types.specs.Step.{statuses, status_of, has_begun_and_goes_on, is_running, device_has_work, movable, idle_lawful}
+use Rattle.kernel_types.specs.CoreStep.{status_of}
+use Rattle.kernel_types.specs.Step.{statuses, has_begun_and_goes_on, is_running, device_has_work, movable, idle_lawful}
 use Rattle.kernel_types.specs.Turns.{takes_turn, is_later, actors_in_turn, kernel_turn, turn_or_kernel, next_turn}
 use Rattle.kernel_types.specs.Waits.{thread_may_move, activity_may_move, thread_movable, may_move}
 use Rattle.runners.specs.Runs.{first_after, IsBelow}

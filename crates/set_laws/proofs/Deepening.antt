@@ -17,7 +17,8 @@ use Rattle.kernel_types.specs.Messages.{with_message, with_opened, without_opene
 use Rattle.kernel_types.specs.Objects.{as_set, memory_of, on_end, set_of}
 use Rattle.kernel_types.specs.Outcome.{Outcome, refuses}
 use Rattle.kernel_types.specs.Sets.{chain_through, is_label_in, is_or_contains, member_limit, new_member, set_add, set_add_entries, set_add_member, set_add_to}
-use Rattle.kernel_types.specs.Step.{Stepped, core_idle, step}
+use Rattle.kernel_types.specs.CoreStep.{core_idle}
+use Rattle.kernel_types.specs.Step.{Stepped, step}
 use Rattle.kernel_types.specs.Tables.{entry_at, table_of}
 use Rattle.kernel_laws.proofs.Found.{found}
 use Rattle.kernel_laws.proofs.Starts.{same_ended, same_idle, same_started}

@@ -13,12 +13,13 @@ use Rattle.kernel_values.specs.declared.state.CoreState.{CoreState}
 use Rattle.kernel_values.specs.declared.state.Port.{Port}
 use Rattle.kernel_values.specs.declared.state.State.{State}
 use Rattle.kernel_values.specs.declared.state.Thread.{Thread}
-use Rattle.kernel_values.specs.declared.state.World.{World}
+use Rattle.kernel_values.specs.declared.world.World.{World}
 use Rattle.kernel_types.specs.Names.{activity_names}
 use Rattle.kernel_types.specs.Objects.{end_of, on_body, on_end, on_port, with_objects}
 use Rattle.kernel_types.specs.Outcome.{Outcome}
 use Rattle.kernel_types.specs.Reach.{is_in}
-use Rattle.kernel_types.specs.Step.{Stepped, act, begin_as, begin_of, cancelled_activity, core_begin, core_idle, core_resume, full_step, idle, idle_lawful, in_world, is_built_event, least_deadline, resume_as, resume_of, resumed, step, swept}
+use Rattle.kernel_types.specs.CoreStep.{act, begin_as, begin_of, cancelled_activity, core_begin, core_idle, core_resume, least_deadline, resume_as, resume_of, resumed, swept}
+use Rattle.kernel_types.specs.Step.{Stepped, full_step, idle, idle_lawful, in_world, is_built_event, step}
 use Rattle.kernel_types.specs.Sweep.{cut_end, has_marked_peer, kept, pruned, pruned_port, reached, sweep}
 use Rattle.kernel_types.specs.Threads.{activity_changed, running_activity, with_activity}
 use Rattle.kernel_types.specs.Waits.{end_of_wait}

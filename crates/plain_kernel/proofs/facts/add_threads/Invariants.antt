@@ -1,5 +1,5 @@
 use Rattle.std.proofs.Common.{◌≡◌, ◌++◌, map, take}
-use Rattle.kernel_types.specs.Step.{status_of}
+use Rattle.kernel_types.specs.CoreStep.{status_of}
 use Rattle.plain_kernel.proofs.facts.add_threads.Given as goal
 
 abbrev pub invariant-loop-thread : goal.invariant-loop-thread

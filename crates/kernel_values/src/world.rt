@@ -1,16 +1,9 @@
-//! The state with the normal world: plain lists and numbers, as those of the core.
+//! The normal world in the state of the model: guest memory, the device of the bridge, the driver and its clients.
 //! Entries of the bridge stand in rising order of their secure addresses, refusals with the oldest first,
 //! connections and clients in the order of their numbers, and messages of an inbox with the oldest first.
 
-use kernel_values::{Bytes, CoreState, EndState, Items};
+use crate::items::{Bytes, Items};
 use virtqueue::Queue;
-
-/// The whole state: the kernel without the normal world, and the normal world.
-#[derive(Debug, Drop)]
-pub struct State {
-    pub core: CoreState,
-    pub world: World,
-}
 
 /// The normal world: the memory that it shares with the device, the device, the driver and the clients.
 #[derive(Debug, Drop)]
@@ -124,18 +117,4 @@ pub enum ClientWaitOn {
     Connect { conn: u32 },
     /// A message.
     Receive { conn: u32 },
-}
-
-/// What the bridge sees of an end that it names.
-#[derive(Clone, Copy, PartialEq, Eq, Debug)]
-pub struct EndView {
-    pub state: EndState,
-    pub accepted: bool,
-    /// The number of filled messages.
-    pub filled: u32,
-    /// The most bytes of a message.
-    pub size: u32,
-    pub slots: u32,
-    /// Whether the peer is there and holds as many messages, filled and open, as it has slots.
-    pub peer_full: bool,
 }

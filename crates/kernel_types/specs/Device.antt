@@ -27,16 +27,16 @@ use Rattle.tipc_proto.specs.declared.controls.Control.{Control}
 use Rattle.tipc_proto.specs.declared.controls.Control.TheVariants.{ConnReq, DiscReq}
 use Rattle.tipc_proto.specs.Frames.{frame_in}
 use Rattle.tipc_proto.specs.Controls.{control_in}
-use Rattle.normal_world.specs.declared.world.BridgeEntry.{BridgeEntry}
-use Rattle.normal_world.specs.declared.world.Refusal.{Refusal}
-use Rattle.normal_world.specs.declared.world.Device.{Device}
-use Rattle.normal_world.specs.declared.world.EndView.{EndView}
-use Rattle.normal_world.specs.declared.world.ClientState.{ClientState}
-use Rattle.normal_world.specs.declared.world.World.{World}
-use Rattle.normal_world.specs.declared.world.State.{State}
-use Rattle.normal_world.specs.Bridge.{Change, only_core, ns_connect, ns_view, ns_peek, ns_push, ns_take, ns_drop}
-use Rattle.normal_world.specs.Errors.{number_of}
-use Rattle.normal_world.specs.Sending.{control_address, frame, online_frame, answer_frame, leave_frame}
+use Rattle.kernel_values.specs.declared.world.BridgeEntry.{BridgeEntry}
+use Rattle.kernel_values.specs.declared.world.Refusal.{Refusal}
+use Rattle.kernel_values.specs.declared.world.Device.{Device}
+use Rattle.kernel_types.specs.declared.bridge.EndView.{EndView}
+use Rattle.kernel_values.specs.declared.world.ClientState.{ClientState}
+use Rattle.kernel_values.specs.declared.world.World.{World}
+use Rattle.kernel_values.specs.declared.state.State.{State}
+use Rattle.kernel_types.specs.Bridge.{Change, only_core, ns_connect, ns_view, ns_peek, ns_push, ns_take, ns_drop}
+use Rattle.kernel_types.specs.Errors.{number_of}
+use Rattle.kernel_types.specs.Sending.{control_address, frame, online_frame, answer_frame, leave_frame}
 
 -- What is due.
 

@@ -14,20 +14,20 @@ use Rattle.kernel_values.specs.declared.reply.Reply.TheVariants as reply
 use Rattle.kernel_types.specs.Objects.{map_at}
 use Rattle.kernel_types.specs.Waits.{deadline_of, is_zero_timeout, is_due}
 use Rattle.virtqueue.specs.Layout.{written_at, published}
-use Rattle.normal_world.specs.declared.world.Connection.{Connection}
-use Rattle.normal_world.specs.declared.world.ConnectionStatus.{ConnectionStatus}
-use Rattle.normal_world.specs.declared.world.ConnectionStatus.TheVariants as connection_status
-use Rattle.normal_world.specs.declared.world.ClientActivity.{ClientActivity}
-use Rattle.normal_world.specs.declared.world.ClientActivity.TheVariants as activity
-use Rattle.normal_world.specs.declared.world.ClientState.{ClientState}
-use Rattle.normal_world.specs.declared.world.ClientWait.{ClientWait}
-use Rattle.normal_world.specs.declared.world.ClientWaitOn.{ClientWaitOn}
-use Rattle.normal_world.specs.declared.world.ClientWaitOn.TheVariants as wait_on
-use Rattle.normal_world.specs.declared.world.World.{World}
-use Rattle.normal_world.specs.Errors.{error_of}
-use Rattle.normal_world.specs.GuestMemory.{memory_size, ring, with_frame}
-use Rattle.normal_world.specs.Sending.{frame, request_frame, leave_frame}
-use Rattle.normal_world.specs.Drains.{connection_of, connection_changed, with_driver, drained}
+use Rattle.kernel_values.specs.declared.world.Connection.{Connection}
+use Rattle.kernel_values.specs.declared.world.ConnectionStatus.{ConnectionStatus}
+use Rattle.kernel_values.specs.declared.world.ConnectionStatus.TheVariants as connection_status
+use Rattle.kernel_values.specs.declared.world.ClientActivity.{ClientActivity}
+use Rattle.kernel_values.specs.declared.world.ClientActivity.TheVariants as activity
+use Rattle.kernel_values.specs.declared.world.ClientState.{ClientState}
+use Rattle.kernel_values.specs.declared.world.ClientWait.{ClientWait}
+use Rattle.kernel_values.specs.declared.world.ClientWaitOn.{ClientWaitOn}
+use Rattle.kernel_values.specs.declared.world.ClientWaitOn.TheVariants as wait_on
+use Rattle.kernel_values.specs.declared.world.World.{World}
+use Rattle.kernel_types.specs.Errors.{error_of}
+use Rattle.kernel_types.specs.GuestMemory.{memory_size, ring, with_frame}
+use Rattle.kernel_types.specs.Sending.{frame, request_frame, leave_frame}
+use Rattle.kernel_types.specs.Drains.{connection_of, connection_changed, with_driver, drained}
 
 -- What a call or the end of a wait comes to: its answer, the world after it, and the frame that went out, where one did.
 pub record Acted : Type 0 where

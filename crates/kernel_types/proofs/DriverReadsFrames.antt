@@ -6,17 +6,17 @@ use Rattle.kernel_values.specs.declared.errno.Errno.TheVariants as errno
 use Rattle.kernel_values.specs.declared.reply.Answer.{Answer}
 use Rattle.kernel_values.specs.declared.reply.Answer.TheVariants as answer
 use Rattle.kernel_values.specs.declared.reply.Reply.TheVariants as reply
-use Rattle.normal_world.specs.declared.world.ClientWaitOn.{ClientWaitOn}
-use Rattle.normal_world.specs.declared.world.ClientWaitOn.TheVariants as wait_on
-use Rattle.normal_world.specs.declared.world.Connection.{Connection}
-use Rattle.normal_world.specs.declared.world.ConnectionStatus.{ConnectionStatus}
-use Rattle.normal_world.specs.declared.world.ConnectionStatus.TheVariants as connection_status
-use Rattle.normal_world.specs.declared.world.World.{World}
-use Rattle.normal_world.specs.Clients.{Acted, asked_connection, answer_of_wait}
-use Rattle.normal_world.specs.Drains.{delivered}
-use Rattle.normal_world.specs.OnLiterals.{world_on_literals}
-use Rattle.normal_world.specs.Opening.{opening_device, opening_driver}
-use Rattle.normal_world.specs.Sending.{frame, online_frame, answer_frame, leave_frame}
+use Rattle.kernel_values.specs.declared.world.ClientWaitOn.{ClientWaitOn}
+use Rattle.kernel_values.specs.declared.world.ClientWaitOn.TheVariants as wait_on
+use Rattle.kernel_values.specs.declared.world.Connection.{Connection}
+use Rattle.kernel_values.specs.declared.world.ConnectionStatus.{ConnectionStatus}
+use Rattle.kernel_values.specs.declared.world.ConnectionStatus.TheVariants as connection_status
+use Rattle.kernel_values.specs.declared.world.World.{World}
+use Rattle.kernel_types.specs.Clients.{Acted, asked_connection, answer_of_wait}
+use Rattle.kernel_types.specs.Drains.{delivered}
+use Rattle.kernel_types.specs.OnLiterals.{world_on_literals}
+use Rattle.kernel_types.specs.Opening.{opening_device, opening_driver}
+use Rattle.kernel_types.specs.Sending.{frame, online_frame, answer_frame, leave_frame}
 
 -- five connections of client 0 that were asked for
 abbrev asked : List Connection

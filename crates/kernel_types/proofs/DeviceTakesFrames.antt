@@ -11,15 +11,15 @@ use Rattle.kernel_values.specs.declared.scene.App.{App}
 use Rattle.kernel_types.specs.OnLiterals.{kernel_on_literals}
 use Rattle.kernel_types.specs.Opening.{opening_core}
 use Rattle.kernel_types.specs.Outcome.{Outcome}
-use Rattle.kernel_types.specs.Step.{core_begin}
+use Rattle.kernel_types.specs.CoreStep.{core_begin}
 use Rattle.tipc_proto.specs.Controls.{message}
-use Rattle.normal_world.specs.declared.world.BridgeEntry.{BridgeEntry}
-use Rattle.normal_world.specs.declared.world.Refusal.{Refusal}
-use Rattle.normal_world.specs.declared.world.Device.{Device}
-use Rattle.normal_world.specs.Device.{Due, Taken, take_frame, due_of, due_reply, due_device, due_change}
-use Rattle.normal_world.specs.Opening.{opening_device}
-use Rattle.normal_world.specs.OnLiterals.{world_on_literals}
-use Rattle.normal_world.specs.Sending.{frame, request_frame, leave_frame}
+use Rattle.kernel_values.specs.declared.world.BridgeEntry.{BridgeEntry}
+use Rattle.kernel_values.specs.declared.world.Refusal.{Refusal}
+use Rattle.kernel_values.specs.declared.world.Device.{Device}
+use Rattle.kernel_types.specs.Device.{Due, Taken, take_frame, due_of, due_reply, due_device, due_change}
+use Rattle.kernel_types.specs.Opening.{opening_device}
+use Rattle.kernel_types.specs.OnLiterals.{world_on_literals}
+use Rattle.kernel_types.specs.Sending.{frame, request_frame, leave_frame}
 
 -- the core and the device, and the other side's part of a story: a call of the one thread, a frame that comes in, or a
 -- frame that is due and goes out

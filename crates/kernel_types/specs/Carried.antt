@@ -10,13 +10,13 @@ use Rattle.kernel_values.specs.declared.entry.Event.TheVariants as event
 use Rattle.kernel_values.specs.declared.scene.Client.{Client}
 use Rattle.kernel_values.specs.SceneLaw.{SceneValue, IsLawfulScene, scripts_of}
 use Rattle.kernel_types.specs.Whole.{FollowsScripts}
-use Rattle.normal_world.specs.declared.world.State.{State}
-use Rattle.normal_world.specs.Clients.{Acted, drains}
-use Rattle.normal_world.specs.Drains.{drained_frames}
-use Rattle.normal_world.specs.Device.{DeviceStep, device_step}
-use Rattle.normal_world.specs.Step.{is_thread, client_number, client_begin, client_resume}
-use Rattle.normal_world.specs.History.{Legal, next_state, state_after}
-use Rattle.normal_world.specs.Opening.{opening}
+use Rattle.kernel_values.specs.declared.state.State.{State}
+use Rattle.kernel_types.specs.Clients.{Acted, drains}
+use Rattle.kernel_types.specs.Drains.{drained_frames}
+use Rattle.kernel_types.specs.Device.{DeviceStep, device_step}
+use Rattle.kernel_types.specs.Step.{is_thread, client_number, client_begin, client_resume}
+use Rattle.kernel_types.specs.History.{Legal, next_state, state_after}
+use Rattle.kernel_types.specs.Opening.{opening}
 
 -- What one step carries.
 

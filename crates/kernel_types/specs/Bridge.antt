@@ -17,7 +17,7 @@ use Rattle.kernel_types.specs.Connects.{Way, to_port, to_start, to_nothing, way_
 use Rattle.kernel_types.specs.Messages.{peer_end, is_full_end, deliver, get_from, put_from, free_id}
 use Rattle.kernel_types.specs.Outcome.{Outcome, no_seqs}
 use Rattle.kernel_types.specs.Sweep.{sweep}
-use Rattle.normal_world.specs.declared.world.EndView.{EndView}
+use Rattle.kernel_types.specs.declared.bridge.EndView.{EndView}
 
 -- A connect of the normal world, which waits for nothing; the bridge names its end, which gets the number `next`.
 

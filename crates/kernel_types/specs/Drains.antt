@@ -8,13 +8,13 @@ use Rattle.tipc_proto.specs.declared.controls.Control.{Control}
 use Rattle.tipc_proto.specs.declared.controls.Control.TheVariants.{ConnRsp, DiscReq}
 use Rattle.tipc_proto.specs.Frames.{frame_in}
 use Rattle.tipc_proto.specs.Controls.{control_in}
-use Rattle.normal_world.specs.declared.world.Connection.{Connection}
-use Rattle.normal_world.specs.declared.world.ConnectionStatus.{ConnectionStatus}
-use Rattle.normal_world.specs.declared.world.ConnectionStatus.TheVariants as connection_status
-use Rattle.normal_world.specs.declared.world.Driver.{Driver}
-use Rattle.normal_world.specs.declared.world.World.{World}
-use Rattle.normal_world.specs.GuestMemory.{UsedElement, ring, new_elements, used_idx, buffer_count, buffer_size, buffer_start, read_at, given}
-use Rattle.normal_world.specs.Sending.{control_address}
+use Rattle.kernel_values.specs.declared.world.Connection.{Connection}
+use Rattle.kernel_values.specs.declared.world.ConnectionStatus.{ConnectionStatus}
+use Rattle.kernel_values.specs.declared.world.ConnectionStatus.TheVariants as connection_status
+use Rattle.kernel_values.specs.declared.world.Driver.{Driver}
+use Rattle.kernel_values.specs.declared.world.World.{World}
+use Rattle.kernel_types.specs.GuestMemory.{UsedElement, ring, new_elements, used_idx, buffer_count, buffer_size, buffer_start, read_at, given}
+use Rattle.kernel_types.specs.Sending.{control_address}
 
 -- Connections, by their addresses. One that is not there changes nothing.
 

@@ -1,7 +1,7 @@
 -- The frames of a connection that carries one request of 100 bytes and one reply, byte for byte.
 use Rattle.std.specs.Prelude.{◌≡◌, [], ◌∷◌, ◌++◌, refl, codes, replicate}
-use Rattle.normal_world.specs.OnLiterals.{world_on_literals}
-use Rattle.normal_world.specs.Sending.{frame, online_frame, request_frame, answer_frame, leave_frame}
+use Rattle.kernel_types.specs.OnLiterals.{world_on_literals}
+use Rattle.kernel_types.specs.Sending.{frame, online_frame, request_frame, answer_frame, leave_frame}
 
 going_online : online_frame ≡
     53 ∷ 0 ∷ 0 ∷ 0 ∷ 53 ∷ 0 ∷ 0 ∷ 0 ∷ 0 ∷ 0 ∷ 0 ∷ 0 ∷ 8 ∷ 0 ∷ 0 ∷ 0 ∷

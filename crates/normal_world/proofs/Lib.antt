@@ -1,3 +1,0 @@
-mod DeviceTakesFrames
-mod DriverReadsFrames
-mod FramesByteForByte
