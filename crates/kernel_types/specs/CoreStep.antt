@@ -1,5 +1,5 @@
 -- The part of a step that is the kernel's without the normal world: a thread's call, the end of its wait, and the passing of time.
-use Rattle.std.specs.Prelude.{ℕ, List, [], ◌∷◌, ◌==◌, map, min, Option, Some, None, slice_get, if◌then◌else◌}
+use Rattle.std.specs.Prelude.{ℕ, true, List, [], ◌∷◌, ◌==◌, map, min, Option, Some, None, slice_get, if◌then◌else◌}
 use Rattle.std.specs.Option.{option_map}
 use Rattle.kernel_values.specs.declared.call.Call.{Call}
 use Rattle.kernel_values.specs.declared.call.Call.TheVariants as call
