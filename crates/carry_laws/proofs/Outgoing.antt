@@ -79,3 +79,73 @@ outgoing_kept size before after queue seen_index free flights is same o =
       distinct = o.distinct;
       count = o.count;
     }
+
+-- A frame is sent.
+
+more_by_one : (at : ℕ) (flights : List Flight) (flight : Flight) → at + length flights + 1 ≡ at + length (flights ++ flight ∷ [])
+more_by_one at flights flight = omega (arith, length-append flights (flight ∷ []))
+
+-- the slot that is written is none of those that are in use
+slots_apart : (size at k len : ℕ) (memory : List ℕ) → IsRingSize size → available_place (ring 1 size) (available_idx memory 1) ≡ available_place (ring 1 size) (at + len)
+    → k < at + len → at + len < k + size → available_idx memory 1 % size ≢ k % size
+slots_apart size at k len memory is slot below few same =
+    let sum : k + (at + len - k) ≡ at + len = omega arith in
+    let apart : (k + (at + len - k)) % size ≢ k % size = apart_in_ring size k (at + len - k) (omega arith) (omega arith) in
+    let there : (at + len) % size ≡ k % size = omega arith in
+    apart (ap (λ n. n % size) sum ∙ there)
+
+sent_apart : (size place : ℕ) (frame memory after : List ℕ) (k : ℕ) (other : Flight) → IsRingSize size → Framed size place frame memory after → place < buffer_count size
+    → length frame ≤ buffer_size → other.place ≢ place → available_idx memory 1 % size ≢ k % size → IsOffered size memory k other → IsOffered size after k other
+sent_apart size place frame memory after k other is f low few apart slots there =
+    let below : other.place < buffer_count size = there.below in
+    let short : length other.bytes ≤ buffer_size = there.short in
+    let top : size ≤ 256 = is.high in
+    let here : available_idx memory 1 % size < size = omega (arith, is.low) in
+    let slot : k % size < size = omega (arith, is.low) in
+    record {
+      offered = f.numbers 2 (available_place (ring 1 size) k) (omega arith) (omega arith) (omega arith) (omega arith) ∙ there.offered;
+      described = described_kept 1 other.place (length other.bytes) 0 memory after there.described
+          (λ n at from to. f.numbers n at (omega arith) (omega arith) (omega arith) (omega arith));
+      written = f.other (buffer_start 1 other.place) (length other.bytes) (omega arith) (omega arith) (omega arith) (omega arith) ∙ there.written;
+      below = below;
+      short = short;
+    }
+
+pub sends : (size place : ℕ) (frame memory : List ℕ) (queue : Queue) (seen_index : ℕ) (rest : List ℕ) (flights : List Flight) → IsRingSize size → IsLong memory → length frame ≤ buffer_size
+    → Outgoing size memory queue seen_index (place ∷ rest) flights
+    → Outgoing size (with_frame size place frame memory) queue seen_index rest (flights ++ record { place = place; bytes = frame } ∷ [])
+sends size place frame memory queue seen_index rest flights is long short o =
+    let after : List ℕ = with_frame size place frame memory in
+    let flight : Flight = record { place = place; bytes = frame } in
+    let at : ℕ = o.seen + length o.back in
+    let low : place < buffer_count size = o.lowest.0 in
+    let f : Framed size place frame memory after = framed size place frame memory is long (omega arith) short in
+    let slot : available_place (ring 1 size) (available_idx memory 1) ≡ available_place (ring 1 size) (at + length flights) =
+    ap (available_place (ring 1 size)) o.available_is ∙ available_at 1 size (at + length flights) is in
+    let bound : available_idx memory 1 % size < size = omega (arith, is.low) in
+    let top : size ≤ 256 = is.high in
+    let all : length flights + length o.back + (1 + length rest) ≡ buffer_count size = omega (arith, o.count) in
+    let once : times place (place ∷ rest) ≡ 1 + times place rest = once_more place rest in
+    let none : times place (places_of flights) ≡ 0 = omega (arith, o.distinct place) in
+    record {
+      seen = o.seen;
+      back = o.back;
+      queue_is = o.queue_is;
+      seen_is = o.seen_is;
+      available_is = f.idx_is ∙ ap next_index o.available_is ∙ next_of (at + length flights)
+          ∙ ap (λ n. n % 65536) (more_by_one at flights flight);
+      used_is = f.numbers 2 (used_idx_start 1) (omega arith) (omega arith) (omega arith) (omega arith) ∙ o.used_is;
+      flying = from_append (IsOffered size after) at flights (flight ∷ [])
+          (from_kept (IsOffered size memory) (IsOffered size after) (λ other. other.place ≢ place) at flights o.flying (times_none (λ other. other.place) place flights none)
+          (λ k other first last apart there. sent_apart size place frame memory after k other is f low short apart (slots_apart size at k (length flights) memory is slot (omega arith) (omega arith)) there))
+          (record { offered = ap (λ n. number_at 2 n after) (sym slot) ∙ f.offered; described = f.described; written = f.written; below = low; short = short }, tt);
+      coming = from_mapped (IsBack size memory) (IsBack size after) o.seen o.back o.coming
+          (λ k back first last there. record { used = f.numbers 4 (used_place (ring 1 size) k) (omega arith) (omega arith) (omega arith) (omega arith) ∙ there.used; below = there.below });
+      lowest = o.lowest.1;
+      distinct = λ p.
+      let before : times p (places_of flights) + times p o.back + times p (place ∷ rest) ≤ 1 = o.distinct p in
+      let moved : times p (places_of (flights ++ flight ∷ [])) ≡ times p (places_of flights) + times p (place ∷ []) =
+      ap (times p) (map_push (λ (x : Flight). x.place) flights flight) ∙ times_append p (places_of flights) (place ∷ []) in
+      omega arith;
+      count = omega (arith, length-append flights (flight ∷ []), o.count);
+    }
