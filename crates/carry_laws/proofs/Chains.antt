@@ -56,7 +56,7 @@ no_chain memory q same =
 not_equal : (a b : ℕ) → a ≢ b → eqb a b ≡ false
 not_equal a b other = grind arith
 
-not_below : (a b : ℕ) → a ≤ b → ltb b a ≡ false
+pub not_below : (a b : ℕ) → a ≤ b → ltb b a ≡ false
 not_below a b le = grind arith
 
 not_over : (a b : ℕ) → a < b → leb b a ≡ false

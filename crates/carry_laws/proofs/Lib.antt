@@ -5,3 +5,4 @@ pub mod Lists
 pub mod Outgoing
 pub mod Regions
 pub mod Rings
+pub mod Taking

@@ -1,5 +1,5 @@
 -- Lists whose items stand at places that count up, and how often a number stands in a list.
-use Rattle.std.proofs.Common.{◌≡◌, ◌≢◌, ℕ, suc, ◌+◌, ◌-◌, ◌%◌, ◌<◌, ◌≤◌, Bool, true, false, ◌||◌, eqb, List, [], ◌∷◌, ◌++◌, length, map, take, drop, refl, sym, ap, subst, ◌∙◌, arith, inl, inr}
+use Rattle.std.proofs.Common.{◌≡◌, ◌≢◌, ℕ, zero, suc, ◌+◌, ◌-◌, ◌%◌, ◌<◌, ◌≤◌, Bool, true, false, ◌||◌, eqb, List, [], ◌∷◌, ◌++◌, length, map, take, drop, refl, sym, ap, subst, ◌∙◌, arith, inl, inr}
 use Rattle.std.specs.List.{insert, list_any, range_with_len}
 use Rattle.std.proofs.lemmas.Bool.{cases_lt, eq-eqb}
 use Rattle.std.proofs.lemmas.List.{length-append, take-append-drop}
@@ -56,6 +56,19 @@ of_append R (x ∷ xs) ys all more = (all.0, of_append R xs ys all.1 more)
 pub of_mapped : {X : Type 0} (R S : X → Type 0) → ((x : X) → R x → S x) → (xs : List X) → AllOf R xs → AllOf S xs
 of_mapped R S says [] all = tt
 of_mapped R S says (x ∷ xs) all = (says x all.0, of_mapped R S says xs all.1)
+
+of_take : {X : Type 0} (R : X → Type 0) (n : ℕ) (xs : List X) → AllOf R xs → AllOf R (take n xs)
+of_take R zero xs all = tt
+of_take R (suc n) [] all = tt
+of_take R (suc n) (x ∷ xs) all = (all.0, of_take R n xs all.1)
+
+of_drop : {X : Type 0} (R : X → Type 0) (n : ℕ) (xs : List X) → AllOf R xs → AllOf R (drop n xs)
+of_drop R zero xs all = all
+of_drop R (suc n) [] all = tt
+of_drop R (suc n) (x ∷ xs) all = of_drop R n xs all.1
+
+pub of_inserted : {X : Type 0} (R : X → Type 0) (at : ℕ) (x : X) (xs : List X) → R x → AllOf R xs → AllOf R (insert xs at x)
+of_inserted R at x xs one all = of_append R (take at xs) (x ∷ drop at xs) (of_take R at xs all) (one, of_drop R at xs all)
 
 -- How often a number stands in a list.
 

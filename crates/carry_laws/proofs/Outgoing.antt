@@ -50,7 +50,7 @@ pub record Outgoing (size : ℕ) (memory : List ℕ) (queue : Queue) (seen_index
 
 -- What changes elsewhere in memory changes nothing here.
 
-same_available : (index : ℕ) (before after : List ℕ) → number_at 2 (available_idx_start index) after ≡ number_at 2 (available_idx_start index) before → available_idx after index ≡ available_idx before index
+pub same_available : (index : ℕ) (before after : List ℕ) → number_at 2 (available_idx_start index) after ≡ number_at 2 (available_idx_start index) before → available_idx after index ≡ available_idx before index
 unfolding available_idx
 same_available index before after same = same
 
