@@ -1,6 +1,7 @@
 pub mod Chains
 pub mod Changes
 pub mod DriverWrites
+pub mod Giving
 pub mod Lists
 pub mod Outgoing
 pub mod Regions
