@@ -2,6 +2,7 @@ pub mod Chains
 pub mod Changes
 pub mod DriverWrites
 pub mod Giving
+pub mod Incoming
 pub mod Lists
 pub mod Outgoing
 pub mod Regions

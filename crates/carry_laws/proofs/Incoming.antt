@@ -1,0 +1,144 @@
+-- Queue 0: the frames on their way to the driver, and the buffers that the device has.
+use Rattle.std.proofs.Common.{◌≡◌, ◌≢◌, ℕ, suc, ◌+◌, ◌*◌, ◌-◌, ◌%◌, ◌^◌, ◌<◌, ◌≤◌, Bool, true, ◌&&◌, leb, ltb, List, [], ◌∷◌, ◌++◌, Some, None, Ok, length, map, refl, sym, ap, subst, ◌∙◌, arith}
+use Rattle.std.specs.List.{filter, fold, range_with_len}
+use Rattle.std.proofs.lemmas.Bool.{lt-ltb, le-leb}
+use Rattle.std.proofs.lemmas.List.{length-append, map_push, length-map}
+use Rattle.virtqueue.specs.declared.queue.Queue.{Queue}
+use Rattle.virtqueue.specs.Chains.{chain}
+use Rattle.virtqueue.specs.Layout.{number_at, written_at, ahead, available_idx, available_head, available_idx_start, available_place, descriptor_start, used_idx_start, used_place, next_index, used_pushed}
+use Rattle.kernel_types.specs.Device.{queue_after}
+use Rattle.kernel_types.specs.Drains.{is_readable, frame_at}
+use Rattle.kernel_types.specs.GuestMemory.{UsedElement, read_at, ring, used_idx, used_element, new_elements, buffer_count, buffer_start, buffer_size, write_flag, given}
+use Rattle.carry_laws.proofs.Changes.{IsLong, Wrote, wrote, Describes, Pushed, pushed}
+use Rattle.carry_laws.proofs.Chains.{buffer_part, no_chain, one_chain}
+use Rattle.carry_laws.proofs.DriverWrites.{described_kept, index_kept}
+use Rattle.carry_laws.proofs.Giving.{IsReady, AreReady, AllGiven, all_given}
+use Rattle.carry_laws.proofs.Lists.{AllFrom, AllOf, from_kept, from_mapped, from_append, from_at, from_range, from_moved, from_of, of_mapped, times, times_append, times_none, once_more, apart_in_ring}
+use Rattle.carry_laws.proofs.Outgoing.{Flight, places_of, same_available}
+use Rattle.carry_laws.proofs.Regions.{IsApart, read_written}
+use Rattle.carry_laws.proofs.Rings.{IsRingSize, SameQueue, same_number, queue_at, queue_goes_on, queue_is_queue, next_of, ahead_by, not_ahead, available_at, used_at}
+use Rattle.carry_laws.proofs.Taking.{new_are, seen_on, filter_whole}
+
+-- the used ring has the frame's buffer and length, and the buffer holds it
+pub record IsWaiting (size : ℕ) (memory : List ℕ) (at : ℕ) (flight : Flight) : Type 0 where
+  pub id_is : number_at 4 (used_place (ring 0 size) at) memory ≡ flight.place
+  pub len_is : number_at 4 (used_place (ring 0 size) at + 4) memory ≡ length flight.bytes
+  pub written : read_at (buffer_start 0 flight.place) (length flight.bytes) memory ≡ flight.bytes
+  pub below : flight.place < buffer_count size
+  pub short : length flight.bytes ≤ buffer_size
+
+-- Each of the driver's descriptors has a frame that waits for the driver, or is ready for the device; and none is twice.
+pub record Incoming (size : ℕ) (memory : List ℕ) (queue : Queue) (seen_index : ℕ) (ready : List ℕ) (flights : List Flight) : Type 0 where
+  pub seen : ℕ
+  pub queue_is : queue ≡ queue_at 0 size (seen + length flights)
+  pub seen_is : seen_index ≡ seen % 65536
+  pub used_is : used_idx memory 0 ≡ (seen + length flights) % 65536
+  pub waiting : AllFrom (IsWaiting size memory) seen flights
+  pub ready_are : AreReady size memory (seen + length flights) ready
+  pub distinct : (p : ℕ) → times p (places_of flights) + times p ready ≤ 1
+  pub count : length flights + length ready ≡ buffer_count size
+
+-- What changes elsewhere in memory changes nothing here.
+pub incoming_kept : (size : ℕ) (before after : List ℕ) (queue : Queue) (seen_index : ℕ) (ready : List ℕ) (flights : List Flight) → IsRingSize size → IsLong after → SameQueue 0 before after
+    → Incoming size before queue seen_index ready flights → Incoming size after queue seen_index ready flights
+incoming_kept size before after queue seen_index ready flights is long same o =
+    let number : (n at : ℕ) → at + n ≤ 0x3000 → number_at n at after ≡ number_at n at before = λ n at high. same_number 0 before after same n at (omega arith) (omega arith) in
+    let top : size ≤ 256 = is.high in
+    record {
+      seen = o.seen;
+      queue_is = o.queue_is;
+      seen_is = o.seen_is;
+      used_is = number 2 (used_idx_start 0) (omega arith) ∙ o.used_is;
+      waiting = from_mapped (IsWaiting size before) (IsWaiting size after) o.seen flights o.waiting
+          (λ k flight low high there.
+          let below : flight.place < buffer_count size = there.below in
+          let short : length flight.bytes ≤ buffer_size = there.short in
+          let slot : k % size < size = omega (arith, is.low) in
+          record {
+            id_is = number 4 (used_place (ring 0 size) k) (omega arith) ∙ there.id_is;
+            len_is = number 4 (used_place (ring 0 size) k + 4) (omega arith) ∙ there.len_is;
+            written = same.buffers (buffer_start 0 flight.place) (length flight.bytes) (omega arith) (omega arith) ∙ there.written;
+            below = below;
+            short = short;
+          });
+      ready_are = record {
+        long = long;
+        available_is = same_available 0 before after (number 2 (available_idx_start 0) (omega arith)) ∙ o.ready_are.available_is;
+        buffers = from_mapped (IsReady size before) (IsReady size after) (o.seen + length flights) ready o.ready_are.buffers
+            (λ k place low high there.
+            let below : place < buffer_count size = there.below in
+            let slot : k % size < size = omega (arith, is.low) in
+            record {
+              offered = number 2 (available_place (ring 0 size) k) (omega arith) ∙ there.offered;
+              described = described_kept 0 place buffer_size write_flag before after there.described (λ n at from to. number n at (omega arith));
+              below = below;
+            });
+      };
+      distinct = o.distinct;
+      count = o.count;
+    }
+
+-- The device gives a frame.
+
+pub nothing_ready : (size : ℕ) (memory : List ℕ) (queue : Queue) (seen_index : ℕ) (flights : List Flight) → Incoming size memory queue seen_index [] flights → chain memory queue ≡ Ok None
+nothing_ready size memory queue seen_index flights o =
+    let at : ℕ = o.seen + length flights in
+    let none : at + 0 ≡ at = omega arith in
+    subst (λ (q : Queue). chain memory q ≡ Ok None) (sym o.queue_is) (no_chain memory (queue_at 0 size at) (o.ready_are.available_is ∙ ap (λ n. n % 65536) none))
+
+head_at : (size count place : ℕ) (memory : List ℕ) → IsRingSize size → number_at 2 (available_place (ring 0 size) count) memory ≡ place
+    → available_head memory (queue_at 0 size count) (count % 65536) ≡ place
+unfolding available_head
+head_at size count place memory is there = ap (λ at. number_at 2 at memory) (available_at 0 size count is) ∙ there
+
+pub next_ready : (size : ℕ) (memory : List ℕ) (queue : Queue) (seen_index place : ℕ) (rest : List ℕ) (flights : List Flight) → IsRingSize size
+    → Incoming size memory queue seen_index (place ∷ rest) flights → chain memory queue ≡ Ok (Some (record { head = place; parts = buffer_part 0 place buffer_size ∷ [] }))
+next_ready size memory queue seen_index place rest flights is o =
+    let at : ℕ = o.seen + length flights in
+    let q : Queue = queue_at 0 size at in
+    let first : IsReady size memory at place = o.ready_are.buffers.0 in
+    let below : place < buffer_count size = first.below in
+    let top : size ≤ 256 = is.high in
+    let few : suc (length rest) ≤ size = omega (arith, o.count) in
+    let more : available_idx memory 0 ≢ at % 65536 = λ same. not_ahead at (suc (length rest)) (omega arith) (omega arith) (sym o.ready_are.available_is ∙ same) in
+    let near : ahead (at % 65536) (available_idx memory 0) ≤ size =
+    let is_far : ahead (at % 65536) (available_idx memory 0) ≡ suc (length rest) = ap (ahead (at % 65536)) o.ready_are.available_is ∙ ahead_by at (suc (length rest)) (omega arith) in
+    omega arith in
+    subst (λ (queue : Queue). chain memory queue ≡ Ok (Some (record { head = place; parts = buffer_part 0 place buffer_size ∷ [] }))) (sym o.queue_is)
+    (one_chain memory q place buffer_size write_flag more near (head_at size at place memory is first.offered) (omega arith) first.described (omega arith) (λ next. refl) (λ next. refl))
+
+-- what the device writes: the frame, then its element
+abbrev pub given_to : ℕ → List ℕ → Queue → List ℕ → List ℕ
+given_to place memory queue frame = used_pushed (written_at (buffer_start 0 place) frame memory) queue place (length frame)
+
+pub record Gave (size place at : ℕ) (frame before after : List ℕ) : Type 0 where
+  pub long : IsLong after
+  pub used_is : used_idx after 0 ≡ (at + 1) % 65536
+  pub id_is : number_at 4 (used_place (ring 0 size) at) after ≡ place
+  pub len_is : number_at 4 (used_place (ring 0 size) at + 4) after ≡ length frame
+  pub written : read_at (buffer_start 0 place) (length frame) after ≡ frame
+  pub other : (from n : ℕ) → IsApart from n (used_idx_start 0) 2 → IsApart from n (used_place (ring 0 size) at) 8 → IsApart from n (buffer_start 0 place) (length frame)
+      → read_at from n after ≡ read_at from n before
+  pub numbers : (n from : ℕ) → IsApart from n (used_idx_start 0) 2 → IsApart from n (used_place (ring 0 size) at) 8 → IsApart from n (buffer_start 0 place) (length frame)
+      → number_at n from after ≡ number_at n from before
+
+pub gave : (size place at : ℕ) (frame memory : List ℕ) → IsRingSize size → IsLong memory → place < 32 → length frame ≤ buffer_size
+    → Gave size place at frame memory (given_to place memory (queue_at 0 size at) frame)
+gave size place at frame memory is long low short =
+    let q : Queue = queue_at 0 size at in
+    let one : List ℕ = written_at (buffer_start 0 place) frame memory in
+    let after : List ℕ = used_pushed one q place (length frame) in
+    let first : Wrote memory one (buffer_start 0 place) (length frame) = wrote (buffer_start 0 place) (length frame) frame memory long refl (omega arith) in
+    let second : Pushed one after q place (length frame) = pushed q place (length frame) one first.long (queue_is_queue 0 size at (omega arith) is) (omega arith) (omega arith) in
+    let slot : used_place q (at % 65536) ≡ used_place (ring 0 size) at = used_at 0 size at is in
+    let top : size ≤ 256 = is.high in
+    let bound : at % 65536 % size < size = omega (arith, is.low) in
+    record {
+      long = second.long;
+      used_is = second.idx_is ∙ next_of at;
+      id_is = ap (λ n. number_at 4 n after) (sym slot) ∙ second.id_is;
+      len_is = ap (λ n. number_at 4 (n + 4) after) (sym slot) ∙ second.len_is;
+      written = second.other (buffer_start 0 place) (length frame) (omega arith) (omega arith) ∙ read_written (buffer_start 0 place) frame memory (omega arith);
+      other = λ from n a b c. second.other from n a (subst (λ p. IsApart from n p 8) (sym slot) b) ∙ first.other from n c;
+      numbers = λ n from a b c. second.numbers n from a (subst (λ p. IsApart from n p 8) (sym slot) b) ∙ first.numbers n from c;
+    }
