@@ -4,6 +4,7 @@ pub mod Changes
 pub mod DriverWrites
 pub mod Giving
 pub mod Incoming
+pub mod Lengths
 pub mod Lists
 pub mod Outgoing
 pub mod Regions
