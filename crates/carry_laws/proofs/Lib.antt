@@ -3,6 +3,7 @@ pub mod Carrying
 pub mod Chains
 pub mod Changes
 pub mod DriverWrites
+pub mod Dues
 pub mod Giving
 pub mod Incoming
 pub mod Lengths
