@@ -17,7 +17,7 @@ use Rattle.carry_laws.proofs.Lists.{AllFrom, AllOf, from_kept, from_mapped, from
 use Rattle.carry_laws.proofs.Outgoing.{Flight, places_of, same_available}
 use Rattle.carry_laws.proofs.Regions.{IsApart, read_written}
 use Rattle.carry_laws.proofs.Rings.{IsRingSize, SameQueue, same_number, queue_at, queue_goes_on, queue_is_queue, next_of, ahead_by, not_ahead, available_at, used_at}
-use Rattle.carry_laws.proofs.Taking.{new_are, seen_on, filter_whole}
+use Rattle.carry_laws.proofs.Taking.{LeavesOther, new_are, seen_on, filter_whole}
 
 -- the used ring has the frame's buffer and length, and the buffer holds it
 pub record IsWaiting (size : ℕ) (memory : List ℕ) (at : ℕ) (flight : Flight) : Type 0 where
@@ -317,3 +317,21 @@ drains size memory queue seen_index ready flights is o =
     low_places : (size : ℕ) (memory : List ℕ) (at : ℕ) (flights : List Flight) → AllFrom (IsWaiting size memory) at flights → AllOf (λ place. place < buffer_count size) (places_of flights)
     low_places size memory at [] waiting = tt
     low_places size memory at (flight ∷ flights) waiting = (waiting.0.below, low_places size memory (at + 1) flights waiting.1)
+
+pub gave_elsewhere : (size : ℕ) (memory : List ℕ) (queue : Queue) (seen_index place : ℕ) (frame rest : List ℕ) (flights : List Flight) → IsRingSize size → length frame ≤ buffer_size
+    → Incoming size memory queue seen_index (place ∷ rest) flights → LeavesOther 1 memory (given_to place memory queue frame)
+gave_elsewhere size memory queue seen_index place frame rest flights is short o =
+    let at : ℕ = o.seen + length flights in
+    let q : Queue = queue_at 0 size at in
+    let low : place < buffer_count size = o.ready_are.buffers.0.below in
+    let g : Gave size place at frame memory (given_to place memory q frame) = gave size place at frame memory is o.ready_are.long (omega arith) short in
+    let top : size ≤ 256 = is.high in
+    let bound : at % size < size = omega (arith, is.low) in
+    let here : LeavesOther 1 memory (given_to place memory q frame) = record {
+      long = g.long;
+      same = record {
+        rings = λ from n a b. g.other from n (omega arith) (omega arith) (omega arith);
+        buffers = λ from n a b. g.other from n (omega arith) (omega arith) (omega arith);
+      };
+    } in
+    subst (λ (n : Queue). LeavesOther 1 memory (given_to place memory n frame)) (sym o.queue_is) here

@@ -8,6 +8,7 @@ pub mod Giving
 pub mod Incoming
 pub mod Lengths
 pub mod Lists
+pub mod Moves
 pub mod Outgoing
 pub mod Regions
 pub mod Rings

@@ -15,7 +15,7 @@ use Rattle.carry_laws.proofs.Chains.{buffer_part, no_chain, one_chain, one_read,
 use Rattle.carry_laws.proofs.DriverWrites.{described_kept}
 use Rattle.carry_laws.proofs.Lists.{AllFrom, AllOf, one_if, from_mapped, from_append, from_at, from_range, from_moved, from_of, of_mapped, of_inserted, times, times_append, times_inserted, length_inserted, none_any, once_more, apart_in_ring}
 use Rattle.carry_laws.proofs.Outgoing.{Flight, IsOffered, IsBack, Outgoing, places_of, same_available}
-use Rattle.carry_laws.proofs.Rings.{IsRingSize, queue_at, queue_goes_on, queue_is_queue, next_of, ahead_by, not_ahead, available_at, used_at}
+use Rattle.carry_laws.proofs.Rings.{IsRingSize, SameQueue, queue_at, queue_goes_on, queue_is_queue, next_of, ahead_by, not_ahead, available_at, used_at}
 
 pub nothing_out : (size : ℕ) (memory : List ℕ) (queue : Queue) (seen_index : ℕ) (free : List ℕ) → Outgoing size memory queue seen_index free [] → chain memory queue ≡ Ok None
 nothing_out size memory queue seen_index free o =
@@ -219,3 +219,26 @@ sees size memory queue seen_index free flights is o =
       distinct = λ p. omega (arith, o.distinct p, f.times_are p);
       count = omega (arith, o.count, f.count);
     })
+
+-- what is written leaves the other queue alone
+pub record LeavesOther (index : ℕ) (before after : List ℕ) : Type 0 where
+  pub long : IsLong after
+  pub same : SameQueue index before after
+
+pub taken_elsewhere : (size : ℕ) (memory : List ℕ) (queue : Queue) (seen_index : ℕ) (free : List ℕ) (flight : Flight) (flights : List Flight) → IsRingSize size → IsLong memory
+    → Outgoing size memory queue seen_index free (flight ∷ flights) → LeavesOther 0 memory (used_pushed memory queue flight.place 0)
+taken_elsewhere size memory queue seen_index free flight flights is long o =
+    let at : ℕ = o.seen + length o.back in
+    let q : Queue = queue_at 1 size at in
+    let low : flight.place < buffer_count size = o.flying.0.below in
+    let p : Pushed memory (used_pushed memory q flight.place 0) q flight.place 0 = pushed q flight.place 0 memory long (queue_is_queue 1 size at (omega arith) is) (omega arith) (omega arith) in
+    let top : size ≤ 256 = is.high in
+    let bound : at % 65536 % size < size = omega (arith, is.low) in
+    let here : LeavesOther 0 memory (used_pushed memory q flight.place 0) = record {
+      long = p.long;
+      same = record {
+        rings = λ from n a b. p.other from n (omega arith) (omega arith);
+        buffers = λ from n a b. p.other from n (omega arith) (omega arith);
+      };
+    } in
+    subst (λ (n : Queue). LeavesOther 0 memory (used_pushed memory n flight.place 0)) (sym o.queue_is) here
