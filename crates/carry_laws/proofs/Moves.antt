@@ -1,5 +1,5 @@
 -- What one step carries, in either direction.
-use Rattle.std.proofs.Common.{◌≡◌, ℕ, ◌+◌, ◌<◌, ◌≤◌, Bool, true, false, not, cond, ltb, List, [], ◌∷◌, ◌++◌, Option, Some, None, Result, Ok, Err, length, map, refl, sym, ap, subst, ◌∙◌, arith}
+use Rattle.std.proofs.Common.{◌≡◌, ℕ, ◌+◌, ◌<◌, ◌≤◌, Bool, true, false, not, ◌&&◌, cond, ltb, List, [], ◌∷◌, ◌++◌, Option, Some, None, Result, Ok, Err, length, map, refl, sym, ap, subst, ◌∙◌, arith}
 use Rattle.std.specs.Option.{option_map}
 use Rattle.std.proofs.lemmas.List.{append-nil, map_push}
 use Rattle.kernel_values.specs.declared.reply.BreakCause.TheVariants as broken
@@ -10,7 +10,7 @@ use Rattle.kernel_values.specs.declared.world.Device.{Device}
 use Rattle.kernel_values.specs.declared.world.World.{World}
 use Rattle.kernel_types.specs.Carried.{one_if}
 use Rattle.kernel_types.specs.Device.{DeviceStep, Due, due_of, due_frame, due_device, due_change, Taken, broke, has_device, queue_after, sent_by_device, sent_world, send_due, step_by_due, take_chain, take_frame, take_next, take_step, taken_by_device, device_step}
-use Rattle.kernel_types.specs.GuestMemory.{buffer_size}
+use Rattle.kernel_types.specs.GuestMemory.{buffer_size, buffer_start}
 use Rattle.virtqueue.specs.declared.chain.Chain.{Chain}
 use Rattle.virtqueue.specs.declared.queue.Queue.{Queue}
 use Rattle.virtqueue.specs.Bytes.{room, bytes_at, stored}
@@ -94,3 +94,75 @@ take_moves sent gave s c (flight ∷ flights) is =
 takes_next : (sent gave : List (List ℕ)) (s : State) → Carrying s.world sent gave → IfDevice sent gave (take_step s)
 unfolding take_step
 takes_next sent gave s c = take_moves sent gave s c c.out refl
+
+-- The device gives the frame that is due.
+
+abbrev chain_in : ℕ → Chain
+chain_in place = record { head = place; parts = buffer_part 0 place buffer_size ∷ [] }
+
+given_moves : (sent gave : List (List ℕ)) (s : State) (c : Carrying s.world sent gave) (place : ℕ) (rest : List ℕ) → c.ready ≡ place ∷ rest → (due : Due) → length (due_frame due) ≤ buffer_size
+    → Moved sent gave [] [] (due_frame due ∷ []) [] (sent_by_device s due (chain_in place)).state.world
+given_moves sent gave s c place rest ready due short =
+    let w : World = s.world in
+    let size : ℕ = w.driver.size in
+    let bytes : List ℕ = due_frame due in
+    let flight : Flight = record { place = place; bytes = bytes } in
+    let d : Device = due_device due w.device in
+    let same : SameQueues w.device d = due_keeps due w.device in
+    let coming : Incoming size w.memory w.device.to_normal w.driver.seen_to_normal (place ∷ rest) c.back =
+    subst (λ ps. Incoming size w.memory w.device.to_normal w.driver.seen_to_normal ps c.back) ready c.coming in
+    let low : place < 32 = omega (arith, coming.ready_are.buffers.0.below) in
+    let stored_is : stored (buffer_part 0 place buffer_size ∷ []) bytes w.memory ≡ written_at (buffer_start 0 place) bytes w.memory =
+    one_stored (buffer_part 0 place buffer_size) bytes w.memory (omega (arith, coming.ready_are.long)) short in
+    let after : List ℕ = given_to place w.memory w.device.to_normal bytes in
+    let other : LeavesOther 1 w.memory after = gave_elsewhere size w.memory w.device.to_normal w.driver.seen_to_normal place bytes rest c.back c.sized short coming in
+    let going : Outgoing size after w.device.from_normal w.driver.seen_from_normal w.driver.free c.out =
+    outgoing_kept size w.memory after w.device.from_normal w.driver.seen_from_normal w.driver.free c.out c.sized other.same c.going in
+    let moved : Moved sent gave [] [] (bytes ∷ []) [] (record w { memory = after; device = record d { to_normal = queue_after w.device.to_normal } }) = record {
+      sent_on = sent;
+      gave_on = gave ++ bytes ∷ [];
+      carries = record {
+        out = c.out;
+        back = c.back ++ flight ∷ [];
+        ready = rest;
+        sized = c.sized;
+        unbroken = same.broken ∙ c.unbroken;
+        going = subst (λ (q : Queue). Outgoing size after q w.driver.seen_from_normal w.driver.free c.out) (sym same.from_normal) going;
+        coming = gives_frame size w.memory w.device.to_normal w.driver.seen_to_normal place bytes rest c.back c.sized short coming;
+        sent_are = c.sent_are;
+        gave_are = map_push (λ (x : Flight). x.bytes) c.back flight ∙ ap (λ fs. fs ++ bytes ∷ []) c.gave_are;
+      };
+      to_device = append-nil sent;
+      to_driver = refl;
+    } in
+    subst (λ m. Moved sent gave [] [] (bytes ∷ []) [] (record w { memory = used_pushed m w.device.to_normal place (length bytes); device = record d { to_normal = queue_after w.device.to_normal } }))
+    (sym stored_is) moved
+
+give_moves : (sent gave : List (List ℕ)) (s : State) (c : Carrying s.world sent gave) (ready : List ℕ) → c.ready ≡ ready → (due : Due) → length (due_frame due) ≤ buffer_size
+    → IfDevice sent gave (send_due s due (chain s.world.memory s.world.device.to_normal))
+give_moves sent gave s c [] is due short =
+    let w : World = s.world in
+    let coming : Incoming w.driver.size w.memory w.device.to_normal w.driver.seen_to_normal [] c.back =
+    subst (λ ps. Incoming w.driver.size w.memory w.device.to_normal w.driver.seen_to_normal ps c.back) is c.coming in
+    subst (λ r. IfDevice sent gave (send_due s due r)) (sym (nothing_ready w.driver.size w.memory w.device.to_normal w.driver.seen_to_normal c.back coming)) (takes_next sent gave s c)
+give_moves sent gave s c (place ∷ rest) is due short =
+    let w : World = s.world in
+    let coming : Incoming w.driver.size w.memory w.device.to_normal w.driver.seen_to_normal (place ∷ rest) c.back =
+    subst (λ ps. Incoming w.driver.size w.memory w.device.to_normal w.driver.seen_to_normal ps c.back) is c.coming in
+    let fits : ltb (room (buffer_part 0 place buffer_size ∷ [])) (length (due_frame due)) ≡ false =
+    not_below (length (due_frame due)) (room (buffer_part 0 place buffer_size ∷ [])) (omega (arith, one_room (buffer_part 0 place buffer_size))) in
+    subst (λ r. IfDevice sent gave (send_due s due r)) (sym (next_ready w.driver.size w.memory w.device.to_normal w.driver.seen_to_normal place rest c.back c.sized coming))
+    (subst (λ b. IfDevice sent gave (cond b (Some (broke s (device.Broke 0 broken.SmallBuffer place))) (Some (sent_by_device s due (chain_in place))))) (sym fits)
+    (given_moves sent gave s c place rest is due short))
+
+due_moves : (sent gave : List (List ℕ)) (s : State) → Carrying s.world sent gave → (o : Option Due) → IfFits o → IfDevice sent gave (step_by_due s o)
+due_moves sent gave s c None fits = takes_next sent gave s c
+due_moves sent gave s c (Some due) fits = give_moves sent gave s c c.ready refl due fits
+
+pub device_moves : (sent gave : List (List ℕ)) (s : State) → Carrying s.world sent gave → AreWithin s.core → IfDevice sent gave (device_step s)
+unfolding device_step
+device_moves sent gave s c w =
+    elim (has_device s.world.clients && not s.world.device.broken) as (λ b. IfDevice sent gave (cond b (step_by_due s (due_of s.core s.world.device)) None)) [
+      | true ↦ due_moves sent gave s c (due_of s.core s.world.device) (due_fits s.core s.world.device w)
+      | false ↦ tt
+    ]
