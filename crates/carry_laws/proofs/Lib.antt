@@ -12,4 +12,5 @@ pub mod Moves
 pub mod Outgoing
 pub mod Regions
 pub mod Rings
+pub mod Steps
 pub mod Taking
