@@ -5,10 +5,12 @@ pub mod Changes
 pub mod DriverWrites
 pub mod Dues
 pub mod Giving
+pub mod Honest
 pub mod Incoming
 pub mod Lengths
 pub mod Lists
 pub mod Moves
+pub mod Opened
 pub mod Outgoing
 pub mod Regions
 pub mod Rings
