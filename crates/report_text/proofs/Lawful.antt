@@ -22,7 +22,7 @@ use Rattle.kernel_values.specs.declared.state.State.{State}
 use Rattle.kernel_values.specs.declared.state.Thread.{Thread}
 use Rattle.kernel_values.specs.declared.entry.ActorStatus.TheVariants as status
 use Rattle.kernel_types.specs.History.{step_entry, entry_of, next_state, state_or}
-use Rattle.kernel_types.specs.Opening.{opening, opening_threads, opening_activity}
+use Rattle.kernel_types.specs.Opening.{opening, opening_threads, opening_activity, opening_client}
 use Rattle.kernel_types.specs.Outcome.{Outcome}
 use Rattle.kernel_types.specs.CoreStep.{core_begin, begin_of, begin_as, core_resume, resume_of, resume_as, act, swept, resumed}
 use Rattle.kernel_types.specs.Step.{Stepped, step, full_step, is_built_event}
@@ -154,7 +154,6 @@ unfolding IsOfScene opening actor_names
 opening_of_scene scene =
     let k : Thread → Option ℕ = λ thread. Some thread.app in
     let n : ClientState → Option ℕ = λ client. None in
-    let begins : Client → ClientState = λ client. record { status = status.Running 1 } in
     let name : Client → List ℕ = λ client. client.name in
     omega (
       arith,
@@ -162,7 +161,7 @@ opening_of_scene scene =
       length-append (map k (opening scene).core.threads) (map n (opening scene).world.clients),
       length-map (opening scene).core.threads k,
       length-map (opening scene).world.clients n,
-      length-map scene.clients begins,
+      length-map scene.clients opening_client,
       length-append (flat_map thread_names scene.apps) (map name scene.clients),
       length-map scene.clients name,
     )
