@@ -1,4 +1,5 @@
--- Every step leaves a settled state: one of a thread is a step of a thread whose application runs, and the normal world gives no application anything but a start.
+-- Every step leaves a settled state: one of a thread is a step of a thread whose application runs, and the normal world gives
+-- an application nothing but a start.
 use Rattle.std.proofs.Common.{◌≡◌, ℕ, ◌==◌, true, false, cond, Option, Some, None}
 use Rattle.std.specs.Prelude.{slice_get}
 use Rattle.std.specs.List.{list_all}
