@@ -54,14 +54,14 @@ pub record BridgeKeeps (P : CoreState → Type 0) : Type 0 where
   pub unbridges : (c : CoreState) → P c → (end : ℕ) → P (unbridged end c)
 
 -- an outcome's core keeps it
-pub record CoreKeeps (P : CoreState → Type 0) (outcome : Outcome) : Type 0 where
-  pub kept : P outcome.core
+record CoreKeeps (P : CoreState → Type 0) (outcome : Outcome) : Type 0 where
+  kept : P outcome.core
 
 abbrev pub IfCome : (CoreState → Type 0) → Option Outcome → Type 0
 IfCome P None = Unit {0}
 IfCome P (Some outcome) = P outcome.core
 
-abbrev pub IfMade : (CoreState → Type 0) → Result CoreState Errno → Type 0
+abbrev IfMade : (CoreState → Type 0) → Result CoreState Errno → Type 0
 IfMade P (Ok made) = P made
 IfMade P (Err errno) = Unit {0}
 

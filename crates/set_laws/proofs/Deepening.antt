@@ -13,8 +13,7 @@ use Rattle.kernel_values.specs.declared.state.State.{State}
 use Rattle.kernel_values.specs.declared.state.TableEntry.{TableEntry}
 use Rattle.kernel_types.specs.Applications.{application_ended, started}
 use Rattle.kernel_types.specs.Events.{chain_limit}
-use Rattle.kernel_types.specs.Messages.{with_message, with_opened, without_opened}
-use Rattle.kernel_types.specs.Objects.{as_set, memory_of, on_end, set_of}
+use Rattle.kernel_types.specs.Objects.{as_set, memory_of, set_of}
 use Rattle.kernel_types.specs.Outcome.{Outcome, refuses}
 use Rattle.kernel_types.specs.Sets.{chain_through, is_label_in, is_or_contains, member_limit, new_member, set_add, set_add_entries, set_add_member, set_add_to}
 use Rattle.kernel_types.specs.CoreStep.{core_idle}
@@ -25,7 +24,7 @@ use Rattle.kernel_laws.proofs.Starts.{same_ended, same_idle, same_started}
 use Rattle.set_laws.specs.Chains.{HasMember, HasShortChains, NamesGivenNumbers}
 use Rattle.set_laws.proofs.BridgeSteps.{IfStepped}
 use Rattle.set_laws.proofs.Adding.{adding_keeps_short, membership_before}
-use Rattle.set_laws.proofs.Shrinking.{Deep, Shrunk, calm_end, deep_added, deep_by, deep_new_set, deep_published, same_set, shrunk_changed, shrunk_filtered, shrunk_mapped}
+use Rattle.set_laws.proofs.Shrinking.{Deep, Shrunk, deep_added, deep_by, deep_new_set, deep_published, same_set, shrunk_changed, shrunk_filtered, shrunk_mapped}
 use Rattle.set_laws.proofs.Lessening.{shrunk_last}
 use Rattle.set_laws.proofs.Walk.{Kept, step_keeps}
 
@@ -76,9 +75,6 @@ deepening = record {
   adding = λ c k names app set handle mask cookie. record { short = adding_keeps_short c app set handle mask cookie k.short; given = adding_given c k.given names app set handle mask cookie };
   put_last = λ c k m id set is has. deep_by c _ (omega arith) (shrunk_last m set has c.objects id is) k;
   published_port = λ c k port. deep_published c port k;
-  sent = λ c k bytes parts id end is. deep_by c _ (omega arith) (shrunk_changed (on_end (with_message bytes parts)) (calm_end (with_message bytes parts)) c.objects id) k;
-  opened = λ c k number message id end is first. deep_by c _ (omega arith) (shrunk_changed (on_end (with_opened number)) (calm_end (with_opened number)) c.objects id) k;
-  retired = λ c k number message id end is first. deep_by c _ (omega arith) (shrunk_changed (on_end (without_opened number)) (calm_end (without_opened number)) c.objects id) k;
   tabled = λ c k change app. record { short = k.short; given = k.given };
   reported = λ c k app handle. record { short = k.short; given = k.given };
   acted = λ c k change thread. record { short = k.short; given = k.given };

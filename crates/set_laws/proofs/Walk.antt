@@ -65,7 +65,7 @@ use Rattle.set_laws.proofs.Lessening.{found_member, less_without, less_remasked}
 -- what holds of a state, and that every change keeps
 pub record Kept : Type 1 where
   pub holds : CoreState → Type 0
-  -- objects, whose queues stay
+  -- objects
   pub changed_one : (c : CoreState) → holds c → (f : Body → Body) → Shrinks f → (id : ℕ) → holds (with_objects (changed f c.objects id) c)
   pub changed_all : (c : CoreState) → holds c → (h : Object → Object) → ((object : Object) → (h object).id ≡ object.id)
       → ((object : Object) → Shrunk (set_in (h object).body) (set_in object.body)) → holds (with_objects (map h c.objects) c)
@@ -77,13 +77,6 @@ pub record Kept : Type 1 where
   pub put_last : (c : CoreState) → holds c → (m : Member) (id : ℕ) (set : HandleSet) → set_of c.objects id ≡ Some set
       → is_in (map (λ member. member.object) set.members) m.object ≡ true → holds (set_changed (with_last m) id c)
   pub published_port : (c : CoreState) → holds c → (port : Port) → holds (publish port c)
-  -- messages
-  pub sent : (c : CoreState) → holds c → (bytes parts : List ℕ) (id : ℕ) (end : ChannelEnd) → end_of c.objects id ≡ Some end
-      → holds (end_changed (with_message bytes parts) id c)
-  pub opened : (c : CoreState) → holds c → (number : ℕ) (message : Message) (id : ℕ) (end : ChannelEnd) → end_of c.objects id ≡ Some end
-      → find is_filled end.messages ≡ Some message → holds (end_changed (with_opened number) id c)
-  pub retired : (c : CoreState) → holds c → (number : ℕ) (message : Message) (id : ℕ) (end : ChannelEnd) → end_of c.objects id ≡ Some end
-      → find (is_opened_as number) end.messages ≡ Some message → holds (end_changed (without_opened number) id c)
   -- applications, threads and the clock
   pub tabled : (c : CoreState) → holds c → (change : List TableEntry → List TableEntry) (app : ℕ) → holds (with_table change app c)
   pub reported : (c : CoreState) → holds c → (app handle : ℕ) → holds (with_last_reported app handle c)
@@ -210,20 +203,17 @@ module _ (L : Kept) where
 
   -- Messages.
 
-  end_kept : (c : CoreState) → L.holds c → (change : ChannelEnd → ChannelEnd) → ((end : ChannelEnd) → (change end).messages ≡ end.messages)
-      → ((end : ChannelEnd) → (change end).sent ≡ end.sent) → (id : ℕ) → L.holds (end_changed change id c)
-  end_kept c k change messages sent id = L.changed_one c k (on_end change) (calm_end change) id
+  end_kept : (c : CoreState) → L.holds c → (change : ChannelEnd → ChannelEnd) (id : ℕ) → L.holds (end_changed change id c)
+  end_kept c k change id = L.changed_one c k (on_end change) (calm_end change) id
 
-  deliver_keeps : (c : CoreState) → L.holds c → (id : ℕ) (peer : Option ℕ) (end : Option ChannelEnd) → peer_end c.objects peer ≡ end
-      → (bytes parts : List ℕ) → Keeps L (deliver c id peer end bytes parts)
-  deliver_keeps c k id None None is bytes parts = refused errno.ChannelClosed c k
-  deliver_keeps c k id None (Some end) is bytes parts = refused errno.ChannelClosed c k
-  deliver_keeps c k id (Some peer) None is bytes parts = refused errno.ChannelClosed c k
-  deliver_keeps c k id (Some peer) (Some end) is bytes parts =
+  deliver_keeps : (c : CoreState) → L.holds c → (id : ℕ) (peer : Option ℕ) (end : Option ChannelEnd) (bytes parts : List ℕ) → Keeps L (deliver c id peer end bytes parts)
+  deliver_keeps c k id None None bytes parts = refused errno.ChannelClosed c k
+  deliver_keeps c k id None (Some end) bytes parts = refused errno.ChannelClosed c k
+  deliver_keeps c k id (Some peer) None bytes parts = refused errno.ChannelClosed c k
+  deliver_keeps c k id (Some peer) (Some end) bytes parts =
       kept_if (is_full_end end) (refuses errno.NotEnoughBuffer (end_changed blocked_end id c))
       (gives_with (reply.Count (length bytes)) (sent_seq peer end.sent) (end_changed (with_message bytes parts) peer c))
-      (refused errno.NotEnoughBuffer (end_changed blocked_end id c) (end_kept c k blocked_end (λ e. refl) (λ e. refl) id))
-      (record { kept = L.sent c k bytes parts peer end is })
+      (refused errno.NotEnoughBuffer (end_changed blocked_end id c) (end_kept c k blocked_end id)) (record { kept = end_kept c k (with_message bytes parts) peer })
 
   send_keeps : (c : CoreState) → L.holds c → (app chan : ℕ) (bytes parts : List ℕ) → Keeps L (send c app chan bytes parts)
   unfolding send
@@ -239,28 +229,27 @@ module _ (L : Kept) where
             (refused_unless (nat_lt end.size (length bytes)) errno.TooBig c _ k
             (refused_unless (not (list_all (is_in_table table) parts)) errno.BadHandle c _ k
             (refused_unless (has_unsendable_part c table (peer_end c.objects end.peer) parts) errno.NotSupported c _ k
-            (deliver_keeps c k id end.peer (peer_end c.objects end.peer) refl bytes (part_objects table parts)))))))
+            (deliver_keeps c k id end.peer (peer_end c.objects end.peer) bytes (part_objects table parts)))))))
       ] in
       elim (entry_at table chan) as (λ o. Keeps L (send_entry c table bytes parts o)) [ None ↦ refused errno.BadHandle c k | Some entry ↦ from entry.object (end_of c.objects entry.object) ]
 
-  get_message_keeps : (c : CoreState) → L.holds c → (object : ℕ) (end : ChannelEnd) → end_of c.objects object ≡ Some end
-      → (message : Option Message) → find is_filled end.messages ≡ message → Keeps L (get_message c object end message)
-  get_message_keeps c k object end is None none =
+  get_message_keeps : (c : CoreState) → L.holds c → (object : ℕ) (end : ChannelEnd) (message : Option Message) → Keeps L (get_message c object end message)
+  get_message_keeps c k object end None =
       kept_if (is_disconnected end.state) (refuses errno.ChannelClosed c) (refuses errno.NoMsg c) (refused errno.ChannelClosed c k) (refused errno.NoMsg c k)
-  get_message_keeps c k object end is (Some message) first = record { kept = L.opened c k (free_id end.messages) message object end is first }
+  get_message_keeps c k object end (Some message) = record { kept = end_kept c k (with_opened (free_id end.messages)) object }
 
-  get_from_keeps : (c : CoreState) → L.holds c → (object : ℕ) (end : Option ChannelEnd) → end_of c.objects object ≡ end → Keeps L (get_from c object end)
-  get_from_keeps c k object None is = refused errno.InvalidArgs c k
-  get_from_keeps c k object (Some end) is =
+  get_from_keeps : (c : CoreState) → L.holds c → (object : ℕ) (end : Option ChannelEnd) → Keeps L (get_from c object end)
+  get_from_keeps c k object None = refused errno.InvalidArgs c k
+  get_from_keeps c k object (Some end) =
       refused_unless (is_unconnected end.state) errno.NotReady c (get_message c object end (find is_filled end.messages)) k
-      (get_message_keeps c k object end is (find is_filled end.messages) refl)
+      (get_message_keeps c k object end (find is_filled end.messages))
 
   get_keeps : (c : CoreState) → L.holds c → (app chan : ℕ) → Keeps L (get c app chan)
   unfolding get
   get_keeps c k app chan =
       elim (entry_at (table_of c app) chan) as (λ o. Keeps L (get_entry c o)) [
         | None ↦ refused errno.BadHandle c k
-        | Some entry ↦ get_from_keeps c k entry.object (end_of c.objects entry.object) refl
+        | Some entry ↦ get_from_keeps c k entry.object (end_of c.objects entry.object)
       ]
 
   read_keeps : (c : CoreState) → L.holds c → (app chan id offset room parts : ℕ) → Keeps L (read c app chan id offset room parts)
@@ -282,25 +271,24 @@ module _ (L : Kept) where
 
   unblocked_kept : (c : CoreState) → L.holds c → (peer : Option ℕ) → L.holds (peer_unblocked peer c)
   unblocked_kept c k None = k
-  unblocked_kept c k (Some peer) = end_kept c k unblocked_end (λ e. refl) (λ e. refl) peer
+  unblocked_kept c k (Some peer) = end_kept c k unblocked_end peer
 
-  put_message_keeps : (c : CoreState) → L.holds c → (object : ℕ) (end : ChannelEnd) (id : ℕ) → end_of c.objects object ≡ Some end
-      → (message : Option Message) → find (is_opened_as id) end.messages ≡ message → Keeps L (put_message c object end id message)
-  put_message_keeps c k object end id is None none = refused errno.InvalidArgs c k
-  put_message_keeps c k object end id is (Some message) first = record {
-    kept = unblocked_kept (end_changed (without_opened id) object c) (L.retired c k id message object end is first) end.peer;
+  put_message_keeps : (c : CoreState) → L.holds c → (object : ℕ) (end : ChannelEnd) (id : ℕ) (message : Option Message) → Keeps L (put_message c object end id message)
+  put_message_keeps c k object end id None = refused errno.InvalidArgs c k
+  put_message_keeps c k object end id (Some message) = record {
+    kept = unblocked_kept (end_changed (without_opened id) object c) (end_kept c k (without_opened id) object) end.peer;
   }
 
-  put_from_keeps : (c : CoreState) → L.holds c → (object id : ℕ) (end : Option ChannelEnd) → end_of c.objects object ≡ end → Keeps L (put_from c object id end)
-  put_from_keeps c k object id None is = refused errno.InvalidArgs c k
-  put_from_keeps c k object id (Some end) is = put_message_keeps c k object end id is (find (is_opened_as id) end.messages) refl
+  put_from_keeps : (c : CoreState) → L.holds c → (object id : ℕ) (end : Option ChannelEnd) → Keeps L (put_from c object id end)
+  put_from_keeps c k object id None = refused errno.InvalidArgs c k
+  put_from_keeps c k object id (Some end) = put_message_keeps c k object end id (find (is_opened_as id) end.messages)
 
   put_keeps : (c : CoreState) → L.holds c → (app chan id : ℕ) → Keeps L (put c app chan id)
   unfolding put
   put_keeps c k app chan id =
       elim (entry_at (table_of c app) chan) as (λ o. Keeps L (put_entry c id o)) [
         | None ↦ refused errno.BadHandle c k
-        | Some entry ↦ put_from_keeps c k entry.object id (end_of c.objects entry.object) refl
+        | Some entry ↦ put_from_keeps c k entry.object id (end_of c.objects entry.object)
       ]
 
   -- Connections.
@@ -364,10 +352,10 @@ module _ (L : Kept) where
       let change : Port → Port = λ p. record p { pending = rest } in
       let less : CoreState = port_changed change port c in
       let here : CoreState = end_changed (accepted_end false) server less in
-      let both : L.holds here = end_kept less (L.changed_one c k (on_port change) (quiet_port change) port) (accepted_end false) (λ e. refl) (λ e. refl) server in
+      let both : L.holds here = end_kept less (L.changed_one c k (on_port change) (quiet_port change) port) (accepted_end false) server in
       let all : L.holds (accept_client client here) = elim client as (λ o. L.holds (accept_client o here)) [
         | None ↦ both
-        | Some id ↦ end_kept here both (accepted_end true) (λ e. refl) (λ e. refl) id
+        | Some id ↦ end_kept here both (accepted_end true) id
       ] in
       given (reply.Accepted (free_handle (table_of c app)) (peer_uuid c client)) (install app server (accept_client client here)) (put_in (accept_client client here) all app server)
 
@@ -390,7 +378,7 @@ module _ (L : Kept) where
   ReportKeeps (Some reported) = L.holds reported.core
 
   cleared_kept : (c : CoreState) → L.holds c → (events id : ℕ) → L.holds (cleared events id c)
-  cleared_kept c k events id = end_kept c k (reported_end events) (λ e. refl) (λ e. refl) id
+  cleared_kept c k events id = end_kept c k (reported_end events) id
 
   report_keeps : (c : CoreState) → L.holds c → (app : ℕ) (on : WaitOn) → ReportKeeps (report_of c app on)
   unfolding report_of
@@ -453,7 +441,7 @@ module _ (L : Kept) where
       let stopped : Option Outcome = cond cancelled (Some (refuses errno.Cancelled less)) None in
       let last : KeepsIf stopped = elim cancelled as (λ b. KeepsIf (cond b (Some (refuses errno.Cancelled less)) None)) [ true ↦ refused errno.Cancelled less out | false ↦ tt ] in
       elim end.accepted as (λ b. KeepsIf (cond b (Some (gives (reply.Handle handle) (end_changed unready id c))) (cond (is_disconnected end.state) (Some (refuses errno.ChannelClosed less)) stopped))) [
-        | true ↦ given (reply.Handle handle) (end_changed unready id c) (end_kept c k unready (λ e. refl) (λ e. refl) id)
+        | true ↦ given (reply.Handle handle) (end_changed unready id c) (end_kept c k unready id)
         | false ↦ elim (is_disconnected end.state) as (λ b. KeepsIf (cond b (Some (refuses errno.ChannelClosed less)) stopped)) [ true ↦ refused errno.ChannelClosed less out | false ↦ last ]
       ]
 
