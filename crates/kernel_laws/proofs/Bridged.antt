@@ -15,9 +15,7 @@ use Rattle.kernel_values.specs.declared.reply.BreakCause.TheVariants as broken
 use Rattle.kernel_values.specs.declared.state.CoreState.{CoreState}
 use Rattle.kernel_values.specs.declared.state.State.{State}
 use Rattle.kernel_values.specs.declared.world.BridgeEntry.{BridgeEntry}
-use Rattle.kernel_values.specs.declared.world.ClientState.{ClientState}
 use Rattle.kernel_values.specs.declared.world.Device.{Device}
-use Rattle.kernel_values.specs.declared.world.World.{World}
 use Rattle.virtqueue.specs.declared.chain.Chain.{Chain}
 use Rattle.virtqueue.specs.declared.queue.RingFault.{RingFault}
 use Rattle.virtqueue.specs.declared.queue.RingFault.TheVariants.{IndexJump, HeadOutOfRange, NextOutOfRange, TooLong, RangeOutside, WrongDirection}
@@ -25,7 +23,7 @@ use Rattle.virtqueue.specs.Bytes.{room, bytes_at}
 use Rattle.virtqueue.specs.Chains.{chain}
 use Rattle.tipc_proto.specs.declared.frames.Frame.{Frame}
 use Rattle.tipc_proto.specs.declared.faults.FrameFault.{FrameFault}
-use Rattle.tipc_proto.specs.declared.faults.FrameFault.TheVariants.{Short, UnknownType, BodyLength, Name}
+use Rattle.tipc_proto.specs.declared.faults.FrameFault.TheVariants.{Short, BodyLength, Name}
 use Rattle.tipc_proto.specs.declared.controls.Control.{Control}
 use Rattle.tipc_proto.specs.declared.controls.Control.TheVariants.{GoOnline, GoOffline, ConnReq, ConnRsp, DiscReq}
 use Rattle.tipc_proto.specs.Frames.{frame_in}
@@ -35,7 +33,7 @@ use Rattle.kernel_types.specs.declared.bridge.EndView.{EndView}
 use Rattle.kernel_types.specs.Bridge.{Change, only_core, ns_connect, ns_view, ns_push, ns_take, ns_drop}
 use Rattle.kernel_types.specs.Events.{is_disconnected}
 use Rattle.kernel_types.specs.Sending.{control_address}
-use Rattle.kernel_types.specs.Device.{Due, DeviceStep, Taken, due_of, due_frame, due_reply, due_change, entry_dropped, broke, ring_broke, sent_by_device, ignores, fault_cause, entry_between, entry_limit, refusal_limit, request_refused, request_connected, request_taken, take_request, leave_taken, take_control, bytes_taken, take_viewed, take_bytes, take_parsed, take_frame, taken_by_device, take_chain, take_next, take_step, send_due, step_by_due, has_device, device_step}
+use Rattle.kernel_types.specs.Device.{Due, DeviceStep, Taken, due_of, due_frame, due_reply, due_change, entry_dropped, broke, ring_broke, sent_by_device, ignores, fault_cause, entry_between, entry_limit, refusal_limit, request_refused, request_connected, request_taken, take_request, leave_taken, take_control, bytes_taken, take_viewed, take_bytes, take_parsed, take_frame, taken_by_device, take_next, take_step, send_due, step_by_due, has_device, device_step}
 use Rattle.kernel_types.specs.Device.Due.{going_online, refusing, answering, denying, sending, leaving}
 use Rattle.kernel_types.specs.Limits.{FitsIn, path_room}
 

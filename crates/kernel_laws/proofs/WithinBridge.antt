@@ -1,5 +1,5 @@
 -- What the bridge asks of the core leaves the objects within their limits, and so does the sweep.
-use Rattle.std.proofs.Common.{◌≡◌, ◌≤◌, ℕ, ◌==◌, ◌&&◌, Bool, true, false, cond, not, List, [], ◌∷◌, length, Option, Some, None, refl, subst, arith}
+use Rattle.std.proofs.Common.{◌≡◌, ◌≤◌, ℕ, ◌&&◌, Bool, true, false, cond, not, List, [], ◌∷◌, length, Option, Some, None, refl, subst, arith}
 use Rattle.std.specs.Prelude.{slice_get, Result, Ok, Err}
 use Rattle.std.specs.List.{filter, fold}
 use Rattle.kernel_values.specs.declared.errno.Errno.{Errno}
@@ -10,7 +10,7 @@ use Rattle.kernel_values.specs.declared.state.CoreState.{CoreState}
 use Rattle.kernel_values.specs.declared.state.EndState.TheVariants as end_state
 use Rattle.kernel_values.specs.declared.state.Port.{Port}
 use Rattle.kernel_values.specs.declared.world.BridgeEntry.{BridgeEntry}
-use Rattle.kernel_types.specs.Bridge.{bridging, marked_if, ns_connect, ns_connect_by, ns_drop, ns_push, ns_take, ns_view, peer_marked, push_from, take_from, view_of, with_error}
+use Rattle.kernel_types.specs.Bridge.{Change, bridging, marked_if, ns_connect, ns_connect_by, ns_drop, ns_push, ns_take, ns_view, peer_marked, push_from, take_from, view_of, with_error}
 use Rattle.kernel_types.specs.Connects.{Way, peer_of, pending_pair, started_unless_running, waiting_client, way_of}
 use Rattle.kernel_types.specs.Connects.Way.{to_port, to_start, to_nothing}
 use Rattle.kernel_types.specs.Device.{entry_dropped}
@@ -121,7 +121,7 @@ all_dropped c w [] = w
 all_dropped c w (entry ∷ entries) = all_dropped (entry_dropped c entry) (ns_drop_within c w true entry.end) entries
 
 -- what the device does to the core leaves the objects within their limits
-abbrev pub within_device : (c : CoreState) → WithinCore c → OfDevice c
+pub within_device : (c : CoreState) → WithinCore c → OfDevice c
 within_device c w = record {
   holds = λ change. WithinCore change.core;
   left = w;
@@ -131,3 +131,7 @@ within_device c w = record {
   dropped = λ end. ns_drop_within c w false end;
   broke = λ entries. all_dropped c w entries;
 }
+
+pub within_after : (c : CoreState) (w : WithinCore c) (change : Change) → (within_device c w).holds change → WithinCore change.core
+unfolding within_device
+within_after c w change kept = kept

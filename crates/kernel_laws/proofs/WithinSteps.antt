@@ -27,7 +27,7 @@ use Rattle.kernel_types.specs.Step.{Stepped, beside_core, client_begin, client_n
 use Rattle.kernel_types.specs.Waits.{end_of_wait}
 use Rattle.kernel_laws.proofs.Bridged.{DeviceKeepsIf, device_keeps}
 use Rattle.kernel_laws.proofs.Within.{WithinCore}
-use Rattle.kernel_laws.proofs.WithinBridge.{swept_within, within_device}
+use Rattle.kernel_laws.proofs.WithinBridge.{swept_within, within_after, within_device}
 use Rattle.kernel_laws.proofs.WithinOthers.{cookie_fine, close_fine, dup_fine, set_fine, add_fine, del_fine, mod_fine, memref_fine, mread_fine, mwrite_fine, wait_fine, wait_any_fine, exit_fine, finish_fine}
 use Rattle.kernel_laws.proofs.WithinChannels.{send_fine, get_fine, read_fine, put_fine}
 use Rattle.kernel_laws.proofs.WithinConnections.{FineIfIn, FineIf, port_fine, connect_fine, accept_fine, end_of_wait_fine}
@@ -140,7 +140,7 @@ status_count s =
     omega (arith, length-append (map f s.core.threads) (map g s.world.clients), length-map s.core.threads f, length-map s.world.clients g)
 
 there_is_client : (s : State) (actor : ℕ) (client : ClientState) → is_thread s actor ≡ false → slice_get s.world.clients (client_number s actor) ≡ Some client → is_client s actor ≡ true
-there_is_client s actor client no is =
+there_is_client s actor client other is =
     let below : client_number s actor < length s.world.clients = slice_get_within s.world.clients (client_number s actor) client is in
     let from : length s.core.threads ≤ actor = grind (arith, tests) in
     let first : nat_le (length s.core.threads) actor ≡ true = grind (arith, tests) in
@@ -151,12 +151,12 @@ there_is_client s actor client no is =
 client_resume_fine : (s : State) → WithinState s → (actor start : ℕ) → is_thread s actor ≡ false
     → StepFine (cond (is_client s actor) full_room no_room) (option_map (beside_core s.core) (client_resume s (client_number s actor) start))
 unfolding client_resume
-client_resume_fine s w actor start no =
+client_resume_fine s w actor start other =
     let P : Option ClientState → Type 0 = λ o. slice_get s.world.clients (client_number s actor) ≡ o
     → StepFine (cond (is_client s actor) full_room no_room) (option_map (beside_core s.core) (client_resume_of s (client_number s actor) start o)) in
     let ends : (client : ClientState) → P (Some client) = λ client is.
     let stepped : Option Acted = client_resume_of s (client_number s actor) start (Some client) in
-    subst (λ (b : Bool). StepFine (cond b full_room no_room) (option_map (beside_core s.core) stepped)) (sym (there_is_client s actor client no is))
+    subst (λ (b : Bool). StepFine (cond b full_room no_room) (option_map (beside_core s.core) stepped)) (sym (there_is_client s actor client other is))
     (beside_fine full_room s w stepped (resume_of_acts s (client_number s actor) start (Some client))) in
     let go : (o : Option ClientState) → P o = λ o. elim o as (λ v. P v) [ None ↦ (λ is. tt) | Some client ↦ ends client ] in
     go (slice_get s.world.clients (client_number s actor)) refl
@@ -164,7 +164,7 @@ client_resume_fine s w actor start no =
 device_fine : (s : State) (w : WithinState s) (o : Option DeviceStep) → DeviceKeepsIf s (within_device s.core w.objects) o → StepFine path_room (option_map device_stepped o)
 device_fine s w None keeps = tt
 device_fine s w (Some done) keeps = (
-  record { objects = keeps.kept; inboxes = subst (λ (d : Driver). Inboxes d.connections) (sym keeps.driver) w.inboxes },
+  record { objects = within_after s.core w.objects _ keeps.kept; inboxes = subst (λ (d : Driver). Inboxes d.connections) (sym keeps.driver) w.inboxes },
   record { bytes = omega (arith, keeps.fits.bytes); handles = omega arith },
   keeps.fits,
 )
@@ -206,7 +206,7 @@ full_step_fine s w (event.Resume actor start) =
     let P : Bool → Type 0 = λ b. is_thread s actor.0 ≡ b → StepFine room (cond b thread client) in
     let go : (b : Bool) → P b = λ b. elim b as (λ v. P v) [
       | true ↦ (λ is. roomier room thread (in_world_fine no_room s.world w.inboxes (core_resume s.core actor.0 start) (resume_fine s.core w.objects actor.0 start)))
-      | false ↦ (λ no. client_resume_fine s w actor.0 start no)
+      | false ↦ (λ other. client_resume_fine s w actor.0 start other)
     ] in
     go (is_thread s actor.0) refl
 full_step_fine s w event.Device = device_fine s w (device_step s) (device_keeps s (within_device s.core w.objects))

@@ -1,5 +1,5 @@
 -- A client's call or the end of its wait: as many clients stay, what came for a connection came in one buffer each, and the answer fits.
-use Rattle.std.proofs.Common.{◌≡◌, ◌≤◌, ℕ, zero, suc, ◌+◌, ◌==◌, ◌&&◌, ◌||◌, Bool, true, false, cond, not, List, [], ◌∷◌, ◌++◌, length, map, min, take, drop, Option, Some, None, refl, ◌∙◌, ap, subst, arith, tests, length-take, length-drop}
+use Rattle.std.proofs.Common.{◌≡◌, ◌≤◌, ℕ, zero, suc, ◌+◌, ◌==◌, ◌||◌, Bool, true, false, cond, not, List, [], ◌∷◌, ◌++◌, length, map, min, drop, Option, Some, None, refl, ◌∙◌, arith, tests, length-take, length-drop}
 use Rattle.std.specs.Prelude.{nat_lt, slice_get, Result, Ok, Err}
 use Rattle.std.specs.List.{All, AllByRecursion, filter, fold}
 use Rattle.std.specs.Option.{option_map}
@@ -33,7 +33,6 @@ use Rattle.tipc_proto.specs.Controls.{control_in}
 use Rattle.kernel_types.specs.Errors.{error_of}
 use Rattle.kernel_types.specs.GuestMemory.{UsedElement, buffer_size, memory_size, new_elements, read_at, buffer_start, ring}
 use Rattle.kernel_types.specs.Limits.{FitsIn, IsInboxWithin, IsSmallAnswer, Room, bytes_of_reply, full_room, handles_of_reply, listed_in_reply, no_room, room_of_call}
-use Rattle.kernel_types.specs.Objects.{map_at}
 use Rattle.kernel_types.specs.Sending.{control_address, frame, leave_frame, request_frame}
 use Rattle.kernel_types.specs.Waits.{deadline_of, is_due, is_zero_timeout}
 use Rattle.kernel_types.specs.Drains.{answered_status, connection_changed, connection_of, connection_place, deliver_control, deliver_frame, delivered, drained, drained_frames, frame_at, from_normal_drained, is_readable, left_status, received_by, status_changed, to_normal_drained, with_bytes}
