@@ -118,13 +118,6 @@ get_message_seqs c object end None =
     elim (is_disconnected end.state) as (λ b. (cond b (refuses errno.ChannelClosed c) (refuses errno.NoMsg c)).seqs ≡ only_opened (cond b (refuses errno.ChannelClosed c) (refuses errno.NoMsg c)).seqs.opened)
     [ true ↦ refl | false ↦ refl ]
 
-get_seqs : (c : CoreState) (object : ℕ) (end : Option ChannelEnd) → (get_from c object end).seqs ≡ only_opened (get_from c object end).seqs.opened
-get_seqs c object None = refl
-get_seqs c object (Some end) =
-    let got : Outcome = get_message c object end (find is_filled end.messages) in
-    elim (is_unconnected end.state) as (λ b. (cond b (refuses errno.NotReady c) got).seqs ≡ only_opened (cond b (refuses errno.NotReady c) got).seqs.opened)
-    [ true ↦ refl | false ↦ get_message_seqs c object end (find is_filled end.messages) ]
-
 put_message_seqs : (c : CoreState) (object : ℕ) (end : ChannelEnd) (id : ℕ) (message : Option Message)
     → (put_message c object end id message).seqs ≡ only_retired (put_message c object end id message).seqs.retired
 put_message_seqs c object end id None = refl
@@ -686,15 +679,15 @@ module _ (X : Type 0) (L : Kept X) where
   ns_take_keeps x c k id =
       let P : Option ChannelEnd → Type 0 = λ o. end_of c.objects id ≡ o → L.holds (L.moved x (take_from c id o).seqs) (take_from c id o).core in
       let took : (end : ChannelEnd) → P (Some end) = λ end is.
-      let got : Outcome = get_from c id (Some end) in
-      let opened : Keeps X L x got = get_from_keeps x c k id (Some end) is in
+      let got : Outcome = get_message c id end (find is_filled end.messages) in
+      let opened : Keeps X L x got = get_message_keeps x c k id end is (find is_filled end.messages) refl in
       let number : ℕ = free_id end.messages in
       let last : Option ChannelEnd = end_of got.core.objects id in
       let done : Outcome = put_from got.core id number last in
       let y : X = L.moved x got.seqs in
       let retired : Keeps X L y done = put_from_keeps y got.core opened.kept id number last refl in
       let apart : L.moved y done.seqs ≡ L.moved x (both_seqs got.seqs.opened done.seqs.retired) =
-      ap (λ q. L.moved (L.moved x q) done.seqs) (get_seqs c id (Some end))
+      ap (λ q. L.moved (L.moved x q) done.seqs) (get_message_seqs c id end (find is_filled end.messages))
       ∙ (ap (λ q. L.moved (L.moved x (only_opened got.seqs.opened)) q) (put_seqs got.core id number last) ∙ L.both x got.seqs.opened done.seqs.retired) in
       swept_kept (L.moved x (both_seqs got.seqs.opened done.seqs.retired)) done.core (subst (λ (z : X). L.holds z done.core) apart retired.kept) in
       let go : (o : Option ChannelEnd) → P o = λ o. elim o as (λ v. P v) [ None ↦ (λ is. L.still x c k) | Some end ↦ took end ] in

@@ -1,5 +1,5 @@
 -- What the bridge asks of the core leaves the objects within their limits, and so does the sweep.
-use Rattle.std.proofs.Common.{◌≡◌, ◌≤◌, ℕ, ◌&&◌, Bool, true, false, cond, not, List, [], ◌∷◌, length, Option, Some, None, refl, subst, arith}
+use Rattle.std.proofs.Common.{find, ◌≡◌, ◌≤◌, ℕ, ◌&&◌, Bool, true, false, cond, not, List, [], ◌∷◌, length, Option, Some, None, refl, subst, arith}
 use Rattle.std.specs.Prelude.{slice_get, Result, Ok, Err}
 use Rattle.std.specs.List.{filter, fold}
 use Rattle.kernel_values.specs.declared.errno.Errno.{Errno}
@@ -15,7 +15,8 @@ use Rattle.kernel_types.specs.Connects.{Way, peer_of, pending_pair, started_unle
 use Rattle.kernel_types.specs.Connects.Way.{to_port, to_start, to_nothing}
 use Rattle.kernel_types.specs.Device.{entry_dropped}
 use Rattle.kernel_types.specs.Limits.{IsEndWithin}
-use Rattle.kernel_types.specs.Messages.{deliver, free_id, get_from, peer_end, put_from}
+use Rattle.kernel_types.specs.Events.{is_filled}
+use Rattle.kernel_types.specs.Messages.{deliver, free_id, get_message, peer_end, put_from}
 use Rattle.kernel_types.specs.Objects.{end_of, on_body, on_end, on_port}
 use Rattle.kernel_types.specs.Outcome.{Outcome}
 use Rattle.kernel_types.specs.Ports.{admits, is_waiting}
@@ -23,7 +24,7 @@ use Rattle.kernel_types.specs.Reach.{is_in}
 use Rattle.kernel_types.specs.Sweep.{cut_end, is_live, is_marked, kept, pruned, pruned_port, reached, sweep}
 use Rattle.kernel_laws.proofs.Bridged.{OfDevice}
 use Rattle.kernel_laws.proofs.Within.{Fine, Within, WithinCore, end_within, keeps_end, keeps_port, within_changed, within_filtered, within_mapped}
-use Rattle.kernel_laws.proofs.WithinChannels.{deliver_fine, get_from_fine, put_from_fine}
+use Rattle.kernel_laws.proofs.WithinChannels.{deliver_fine, get_message_fine, put_from_fine}
 use Rattle.kernel_laws.proofs.WithinConnections.{WayWithin, pending_within, started_within, waiting_within, way_within}
 
 cut_within : (marked : List ℕ) (end : ChannelEnd) → IsEndWithin end → IsEndWithin (cut_end marked end)
@@ -94,8 +95,8 @@ ns_take_within c w id =
     elim (end_of c.objects id) as (λ o. WithinCore (take_from c id o).core) [
       | None ↦ w
       | Some end ↦
-          let got : Outcome = get_from c id (Some end) in
-          let opened : Fine got = get_from_fine c w id (Some end) in
+          let got : Outcome = get_message c id end (find is_filled end.messages) in
+          let opened : Fine got = get_message_fine c w id end (find is_filled end.messages) in
           let done : Outcome = put_from got.core id (free_id end.messages) (end_of got.core.objects id) in
           let retired : Fine done = put_from_fine got.core opened.within id (free_id end.messages) (end_of got.core.objects id) in
           swept_within done.core retired.within

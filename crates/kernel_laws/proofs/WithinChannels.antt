@@ -103,7 +103,7 @@ send_fine c w app chan bytes parts =
       | Some entry ↦ send_from_fine c w entry.object (table_of c app) bytes parts (end_of c.objects entry.object) refl
     ]
 
-get_message_fine : (c : CoreState) → WithinCore c → (object : ℕ) (end : ChannelEnd) (message : Option Message) → Fine (get_message c object end message)
+pub get_message_fine : (c : CoreState) → WithinCore c → (object : ℕ) (end : ChannelEnd) (message : Option Message) → Fine (get_message c object end message)
 get_message_fine c w object end None =
     fine_if (is_disconnected end.state) (refuses errno.ChannelClosed c) (refuses errno.NoMsg c) (λ is. refused errno.ChannelClosed c w) (λ is. refused errno.NoMsg c w)
 get_message_fine c w object end (Some message) =
@@ -111,7 +111,7 @@ get_message_fine c w object end (Some message) =
     given (reply.Message (free_id end.messages) (length message.bytes) (length message.parts)) (omega arith) (omega arith) (omega arith) (opened_seq object message.seq) (end_changed change object c)
     (within_changed (on_end change) (keeps_end change (with_opened_within (free_id end.messages))) c.objects w object)
 
-pub get_from_fine : (c : CoreState) → WithinCore c → (object : ℕ) (end : Option ChannelEnd) → Fine (get_from c object end)
+get_from_fine : (c : CoreState) → WithinCore c → (object : ℕ) (end : Option ChannelEnd) → Fine (get_from c object end)
 get_from_fine c w object None = refused errno.InvalidArgs c w
 get_from_fine c w object (Some end) =
     refused_unless (is_unconnected end.state) errno.NotReady c (get_message c object end (find is_filled end.messages)) w

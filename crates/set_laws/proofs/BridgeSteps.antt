@@ -27,7 +27,7 @@ use Rattle.kernel_types.specs.Connects.Way.{to_nothing, to_port, to_start}
 use Rattle.kernel_types.specs.CoreStep.{core_begin, core_idle, core_resume}
 use Rattle.kernel_types.specs.Device.{DeviceStep, device_step, entry_dropped}
 use Rattle.kernel_types.specs.Events.{is_disconnected, is_filled}
-use Rattle.kernel_types.specs.Messages.{blocked_end, deliver, free_id, get_from, get_message, is_full_end, is_opened_as, is_unconnected, opened_as, peer_end, peer_unblocked, put_from, put_message, unblocked_end, with_message, with_opened, without_opened}
+use Rattle.kernel_types.specs.Messages.{blocked_end, deliver, free_id, get_message, is_full_end, is_opened_as, is_unconnected, opened_as, peer_end, peer_unblocked, put_from, put_message, unblocked_end, with_message, with_opened, without_opened}
 use Rattle.kernel_types.specs.Objects.{end_changed, end_of}
 use Rattle.kernel_types.specs.Outcome.{Outcome, gives_with, refuses, sent_seq}
 use Rattle.kernel_types.specs.Ports.{admits}
@@ -132,12 +132,6 @@ module _ (P : CoreState → Type 0) (k : BridgeKeeps P) where
       λ n e all. all_map_at (λ (m : Message). Below n m.parts) (opened_as number) (λ m is. is) e.messages (position_or_len is_filled e.messages) all in
       record { kept = k.ends c p (with_opened number) names id }
 
-  get_keeps : (c : CoreState) → P c → (id : ℕ) (o : Option ChannelEnd) → CoreKeeps P (get_from c id o)
-  get_keeps c p id None = record { kept = p }
-  get_keeps c p id (Some end) =
-      kept_if (is_unconnected end.state) (refuses errno.NotReady c) (get_message c id end (find is_filled end.messages)) (record { kept = p })
-      (get_message_keeps c p id end (find is_filled end.messages))
-
   unblocked_keeps : (c : CoreState) → P c → (peer : Option ℕ) → P (peer_unblocked peer c)
   unblocked_keeps c p None = p
   unblocked_keeps c p (Some peer) = k.ends c p unblocked_end (λ n e all. all) peer
@@ -157,9 +151,9 @@ module _ (P : CoreState → Type 0) (k : BridgeKeeps P) where
   take_from_keeps c p id None = p
   take_from_keeps c p id (Some end) =
       let number : ℕ = free_id end.messages in
-      let there : CoreState = (get_from c id (Some end)).core in
+      let there : CoreState = (get_message c id end (find is_filled end.messages)).core in
       let after : CoreState = (put_from there id number (end_of there.objects id)).core in
-      k.sweeps after (put_keeps there (get_keeps c p id (Some end)).kept id number (end_of there.objects id))
+      k.sweeps after (put_keeps there (get_message_keeps c p id end (find is_filled end.messages)).kept id number (end_of there.objects id))
 
   take_keeps : (c : CoreState) → P c → (end : ℕ) → P (ns_take c end).core
   unfolding ns_take
