@@ -19,10 +19,11 @@ use Rattle.kernel_types.specs.History.{Legal, next_state, state_after, state_or}
 use Rattle.kernel_types.specs.Opening.{opening, opening_activity, opening_app, opening_threads}
 use Rattle.kernel_types.specs.Step.{Stepped, step}
 use Rattle.kernel_types.specs.Tables.{table_in}
+use Rattle.set_laws.proofs.BridgeSteps.{IfStepped}
 use Rattle.set_laws.proofs.Lists.{IfThere, all_appended, all_get, all_weaker}
 use Rattle.app_laws.specs.Ended.{EndedNameNone, IsSettled, NamesNone, runs, waits}
 use Rattle.app_laws.proofs.Settling.{EmptyUnlessRunning, OverUnlessRunning, RunsAt}
-use Rattle.app_laws.proofs.Steps.{SettledIn, StepSettles, step_settles}
+use Rattle.app_laws.proofs.Steps.{SettledIn, step_settles}
 
 from_state : (s : State) → IsSettled s → SettledIn s.core
 from_state s k = record {
@@ -77,7 +78,7 @@ settled_openings scene = to_state (opening scene) (opening_settled scene)
 
 -- Steps.
 
-stepped_settled : (o : Option Stepped) (r : Stepped) → o ≡ Some r → StepSettles o → SettledIn r.state.core
+stepped_settled : (o : Option Stepped) (r : Stepped) → o ≡ Some r → IfStepped SettledIn o → SettledIn r.state.core
 stepped_settled None r is settles = absurd (cc)
 stepped_settled (Some stepped) r is settles =
     let same : stepped ≡ r = cc in

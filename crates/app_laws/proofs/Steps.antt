@@ -1,4 +1,5 @@
--- Every step leaves a settled state: one of a thread is a step of a thread whose application runs.
+-- Every step leaves a settled state: one of a thread is a step of a thread whose application runs, and the normal world gives
+-- an application nothing but a start.
 use Rattle.std.proofs.Common.{◌≡◌, ℕ, ◌==◌, true, false, cond, Option, Some, None}
 use Rattle.std.specs.Prelude.{slice_get}
 use Rattle.std.specs.List.{list_all}
@@ -6,23 +7,22 @@ use Rattle.std.specs.Option.{option_map}
 use Rattle.kernel_values.specs.declared.call.Call.{Call}
 use Rattle.kernel_values.specs.declared.call.Call.TheVariants as call
 use Rattle.kernel_values.specs.declared.entry.Event.{Event}
-use Rattle.kernel_values.specs.declared.entry.Event.TheVariants as event
 use Rattle.kernel_values.specs.declared.state.Activity.{Activity}
 use Rattle.kernel_values.specs.declared.state.Activity.TheVariants as activity
 use Rattle.kernel_values.specs.declared.state.CoreState.{CoreState}
 use Rattle.kernel_values.specs.declared.state.State.{State}
 use Rattle.kernel_values.specs.declared.state.Thread.{Thread}
-use Rattle.kernel_values.specs.declared.world.World.{World}
 use Rattle.kernel_types.specs.Applications.{after_finish, application_ended, ended_activity, exit, finish, is_elsewhere_or_over, is_over, thread_ended}
 use Rattle.kernel_types.specs.Objects.{map_at}
 use Rattle.kernel_types.specs.Outcome.{Outcome}
-use Rattle.kernel_types.specs.CoreStep.{act, begin_as, begin_of, core_begin, core_idle, core_resume, least_deadline, resume_as, resume_of, resumed, swept}
-use Rattle.kernel_types.specs.Step.{Stepped, full_step, idle, idle_lawful, in_world, is_built_event, step}
+use Rattle.kernel_types.specs.CoreStep.{act, begin_as, begin_of, core_begin, core_resume, resume_as, resume_of, resumed, swept}
+use Rattle.kernel_types.specs.Step.{step}
 use Rattle.kernel_types.specs.Sweep.{kept, pruned, sweep}
 use Rattle.kernel_types.specs.Threads.{running_activity, with_activity}
 use Rattle.kernel_types.specs.Waits.{end_of_wait}
+use Rattle.set_laws.proofs.BridgeSteps.{BridgeKeeps, IfCome, IfStepped, every_step_keeps}
 use Rattle.set_laws.proofs.Lists.{IfThere, all_get}
-use Rattle.app_laws.proofs.Settling.{Live, OverUnlessRunning, RunsAt, Settled, acted_settled, ended_over, idled, not_over_runs, over_settled}
+use Rattle.app_laws.proofs.Settling.{Live, OverUnlessRunning, RunsAt, Settled, acted_settled, ended_over, idled, not_over_runs, over_settled, started_settled}
 use Rattle.app_laws.proofs.Calls.{Keeps, KeepsIf, accept_keeps, add_keeps, close_keeps, connect_keeps, cookie_keeps, del_keeps, dup_keeps, end_of_wait_keeps, get_keeps, memref_keeps, mod_keeps, mread_keeps, mwrite_keeps, port_keeps, put_keeps, read_keeps, running_over, send_keeps, set_keeps, wait_any_keeps, wait_keeps}
 
 abbrev pub SettledIn : CoreState → Type 0
@@ -144,23 +144,24 @@ module _ (c : CoreState) (k : Settled c.apps c.threads) where
 
 -- Steps.
 
-abbrev pub StepSettles : Option Stepped → Type 0
-StepSettles None = Unit {0}
-StepSettles (Some stepped) = SettledIn stepped.state.core
+come_settles : (o : Option Outcome) → SettlesIf o → IfCome SettledIn o
+come_settles None settles = tt
+come_settles (Some outcome) settles = settles.settled
 
-in_world_settles : (world : World) (o : Option Outcome) → SettlesIf o → StepSettles (option_map (in_world world) o)
-in_world_settles world None settles = tt
-in_world_settles world (Some outcome) settles = settles.settled
+-- the bridge changes objects and what it names, and starts applications
+bridge_settles : BridgeKeeps SettledIn
+bridge_settles = record {
+  sweeps = λ c k. swept_settled c k;
+  pairs = λ c k id port. k;
+  clients = λ c k path. k;
+  starts = λ c k place. started_settled place c k;
+  ends = λ c k change names id. k;
+  unbridges = λ c k end. k;
+}
 
-full_step_settles : (s : State) → SettledIn s.core → (ev : Event) → StepSettles (full_step s ev)
-unfolding full_step
-full_step_settles s k (event.Begin actor start asked) = in_world_settles s.world (core_begin s.core actor.0 start asked) (begin_settles s.core k actor.0 start asked)
-full_step_settles s k (event.Resume actor start) = in_world_settles s.world (core_resume s.core actor.0 start) (resume_settles s.core k actor.0 start)
-full_step_settles s k event.Device = tt
-full_step_settles s k event.Idle =
-    let after : CoreState = core_idle (least_deadline s.core) s.core in
-    elim (idle_lawful s) as (λ b. StepSettles (cond b (Some (idle s)) None)) [ true ↦ swept_settled after (idled s.core k (least_deadline s.core)) | false ↦ tt ]
-
-pub step_settles : (s : State) → SettledIn s.core → (ev : Event) → StepSettles (step s ev)
-unfolding step
-step_settles s k ev = elim (is_built_event ev) as (λ b. StepSettles (cond b (full_step s ev) None)) [ true ↦ full_step_settles s k ev | false ↦ tt ]
+pub step_settles : (s : State) → SettledIn s.core → (ev : Event) → IfStepped SettledIn (step s ev)
+step_settles s k ev =
+    every_step_keeps SettledIn bridge_settles s k
+    (λ thread start asked. come_settles (core_begin s.core thread start asked) (begin_settles s.core k thread start asked))
+    (λ thread start. come_settles (core_resume s.core thread start) (resume_settles s.core k thread start))
+    (λ deadline. idled s.core k deadline) ev

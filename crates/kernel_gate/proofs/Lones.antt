@@ -1,6 +1,6 @@
 -- What happens in a state with one thread.
-use Rattle.std.proofs.Common.{◌≡◌, ℕ, zero, suc, ◌==◌, Bool, true, false, ◌&&◌, not, nat_le, None, refl, sym, ap, arith}
-use Rattle.std.specs.Prelude.{if◌then◌else◌}
+use Rattle.std.proofs.Common.{◌≡◌, ℕ, zero, suc, ◌==◌, Bool, true, false, cond, ◌&&◌, not, nat_le, None, refl, sym, ap, arith}
+use Rattle.std.specs.Option.{option_map}
 use Rattle.kernel_values.specs.declared.call.Call.{Call}
 use Rattle.kernel_values.specs.declared.entry.Event.{Event}
 use Rattle.kernel_values.specs.declared.entry.Event.TheVariants as event
@@ -11,7 +11,8 @@ use Rattle.kernel_types.specs.declared.kernel.StepCause.TheVariants as kernel
 use Rattle.kernel_types.specs.OnLiterals.{kernel_on_literals}
 use Rattle.kernel_types.specs.Built.{is_built}
 use Rattle.kernel_types.specs.CoreStep.{core_begin, core_resume}
-use Rattle.kernel_types.specs.Step.{step, full_step, statuses, idle_lawful, movable}
+use Rattle.kernel_types.specs.Device.{device_step}
+use Rattle.kernel_types.specs.Step.{in_world, beside_core, is_thread, client_number, begin, step, full_step, client_begin, client_resume, client_movable, statuses, idle_lawful, movable}
 use Rattle.kernel_types.specs.Waits.{thread_movable}
 use Rattle.kernel_types.specs.Facts.{status_at, is_client, is_at_end}
 use Rattle.kernel_types.specs.Kernel.{Did, CauseHolds, status_for}
@@ -30,19 +31,31 @@ did_finish = record {
   below = omega arith;
 }
 
-begin_over : (call : Bool) (n start : ℕ) (c : Call) → (if call then full_step (lone true) (event.Begin (record { 0 = n }) start c) else None) ≡ None
-unfolding full_step core_begin
-begin_over true zero start c = refl
-begin_over true (suc n) start c = refl
-begin_over false n start c = refl
+-- the actor 0 is the thread, and there is no client
+
+begin_over : (n start : ℕ) (c : Call) → begin (lone true) n start c ≡ None
+unfolding core_begin client_begin
+begin_over zero start c = refl
+begin_over (suc n) start c = elim (is_thread (lone true) (suc n)) as (λ b. cond b (option_map (in_world (lone true).world) (core_begin (lone true).core (suc n) start c)) (option_map (beside_core (lone true).core) (client_begin (lone true) (client_number (lone true) (suc n)) start c)) ≡ None) [
+  | true ↦ refl
+  | false ↦ refl
+]
+
+built_over : (built : Bool) (n start : ℕ) (c : Call) → cond built (full_step (lone true) (event.Begin (record { 0 = n }) start c)) None ≡ None
+unfolding full_step
+built_over true n start c = begin_over n start c
+built_over false n start c = refl
 
 resume_over : (n start : ℕ) → full_step (lone true) (event.Resume (record { 0 = n }) start) ≡ None
-unfolding full_step core_resume
+unfolding full_step core_resume client_resume
 resume_over zero start = refl
-resume_over (suc n) start = refl
+resume_over (suc n) start = elim (is_thread (lone true) (suc n)) as (λ b. cond b (option_map (in_world (lone true).world) (core_resume (lone true).core (suc n) start)) (option_map (beside_core (lone true).core) (client_resume (lone true) (client_number (lone true) (suc n)) start)) ≡ None) [
+  | true ↦ refl
+  | false ↦ refl
+]
 
 device_over : full_step (lone true) event.Device ≡ None
-unfolding full_step
+unfolding full_step device_step
 device_over = refl
 
 idle_over : full_step (lone true) event.Idle ≡ None
@@ -52,7 +65,7 @@ idle_over = refl
 -- when the thread is over no event is lawful
 pub nothing_left : (e : Event) → step (lone true) e ≡ None
 unfolding step
-nothing_left (event.Begin actor start c) = begin_over (is_built c) actor.0 start c
+nothing_left (event.Begin actor start c) = built_over (is_built c) actor.0 start c
 nothing_left (event.Resume actor start) = resume_over actor.0 start
 nothing_left event.Device = device_over
 nothing_left event.Idle = idle_over
@@ -74,12 +87,18 @@ status_then event.Idle = refl
 pub refused_over : (e : Event) → CauseHolds e (lone true) 1 (kernel.NotMovable (status_over e))
 refused_over e = (nothing_left e, status_then e)
 
+moves_if : (over thread : Bool) (n : ℕ) → cond thread (thread_movable (lone over).core n) (client_movable (lone over) (client_number (lone over) n)) ≡ false
+unfolding thread_movable client_movable
+moves_if true true zero = refl
+moves_if true true (suc n) = refl
+moves_if false true zero = refl
+moves_if false true (suc n) = refl
+moves_if true false n = refl
+moves_if false false n = refl
+
 pub still : (over : Bool) (actor : ℕ) → movable (lone over) actor ≡ false
-unfolding movable thread_movable
-still true zero = refl
-still true (suc n) = refl
-still false zero = refl
-still false (suc n) = refl
+unfolding movable
+still over actor = moves_if over (is_thread (lone over) actor) actor
 
 pub never_idle : (over : Bool) → idle_lawful (lone over) ≡ false
 unfolding kernel_on_literals

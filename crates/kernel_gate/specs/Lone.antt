@@ -8,11 +8,12 @@ use Rattle.kernel_values.specs.declared.entry.ActorStatus.TheVariants as status
 use Rattle.kernel_values.specs.declared.state.Activity.{Activity}
 use Rattle.kernel_values.specs.declared.state.Activity.TheVariants as activity
 use Rattle.kernel_values.specs.declared.state.State.{State}
+use Rattle.kernel_types.specs.Opening.{world_without_clients}
 
 abbrev pub lone_with : Activity → State
 lone_with activity = record {
   core = record { apps = []; threads = record { app = 0; activity = activity } ∷ []; objects = []; next = 0; clock = 0; bridged = [] };
-  world = record { clients = [] };
+  world = world_without_clients 16;
 }
 
 abbrev pub lone : Bool → State

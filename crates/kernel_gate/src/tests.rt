@@ -50,7 +50,7 @@ fn status_over(event: &Event) -> Option<ActorStatus>
     }
 }
 
-#[tactic(auto, unfolding(kernel_types::specs::Step::statuses, kernel_types::specs::Step::device_has_work, kernel_types::specs::Names::naming), using(crate::proofs::Lones::did_finish, crate::proofs::Lones::refused_over, crate::proofs::Lones::still, crate::proofs::Lones::never_idle, crate::proofs::Lones::at_end, crate::proofs::Lones::no_client))]
+#[tactic(auto, unfolding(kernel_types::specs::Step::statuses, kernel_types::specs::Step::device_has_work, kernel_types::specs::Device::device_step, kernel_types::specs::Names::naming), using(crate::proofs::Lones::did_finish, crate::proofs::Lones::refused_over, crate::proofs::Lones::still, crate::proofs::Lones::never_idle, crate::proofs::Lones::at_end, crate::proofs::Lones::no_client))]
 impl IpcKernel for Lone {
     ghost use Rattle.kernel_gate.specs.Lone.{lone, steps_of};
 

@@ -1,5 +1,7 @@
+pub mod Bridged
 pub mod Found
 pub mod Histories
+pub mod Mapped
 pub mod Messages
 pub mod Orders
 pub mod Publishing
@@ -12,7 +14,9 @@ pub mod Tales
 pub mod Tells
 pub mod Walk
 pub mod Within
+pub mod WithinBridge
 pub mod WithinChannels
 pub mod WithinConnections
 pub mod WithinOthers
 pub mod WithinSteps
+pub mod Worlds

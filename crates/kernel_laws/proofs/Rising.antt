@@ -134,6 +134,7 @@ rising = record {
   holds = λ x c. Rises c;
   moved = λ x seqs. x;
   still = λ x c k. k;
+  both = λ x opened retired. refl;
   changed_one = λ x c k f quiet id. rises_changed f 0 c.objects c.next id k;
   changed_all = λ x c k h keeps quiet. rises_mapped h keeps 0 c.objects c.next k;
   fewer = λ x c k p. rises_filtered (λ object. p object.id) 0 c.objects c.next k;
@@ -142,6 +143,7 @@ rising = record {
   sent = λ x c k bytes parts id end is. rises_changed (on_end (with_message bytes parts)) 0 c.objects c.next id k;
   opened = λ x c k number message id end is first. rises_changed (on_end (with_opened number)) 0 c.objects c.next id k;
   retired = λ x c k number message id end is first. rises_changed (on_end (without_opened number)) 0 c.objects c.next id k;
+  bridged = λ x c k ends. k;
   tabled = λ x c k change app. k;
   reported = λ x c k app handle. k;
   acted = λ x c k change thread. k;
@@ -218,6 +220,7 @@ spending number = record {
   holds = λ x c. Spent number c;
   moved = λ x seqs. x;
   still = λ x c k. k;
+  both = λ x opened retired. refl;
   changed_one = λ x c k f quiet id. record { given = k.given; gone = gone_changed f c.objects id number k.gone };
   changed_all = λ x c k h keeps quiet. record { given = k.given; gone = found_map h keeps c.objects number ∙ ap (λ o. option_map h o) k.gone };
   fewer = λ x c k p. record { given = k.given; gone = gone_filtered p c.objects number k.gone };
@@ -226,6 +229,7 @@ spending number = record {
   sent = λ x c k bytes parts id end is. record { given = k.given; gone = gone_changed (on_end (with_message bytes parts)) c.objects id number k.gone };
   opened = λ x c k n message id end is first. record { given = k.given; gone = gone_changed (on_end (with_opened n)) c.objects id number k.gone };
   retired = λ x c k n message id end is first. record { given = k.given; gone = gone_changed (on_end (without_opened n)) c.objects id number k.gone };
+  bridged = λ x c k ends. record { given = k.given; gone = k.gone };
   tabled = λ x c k change app. record { given = k.given; gone = k.gone };
   reported = λ x c k app handle. record { given = k.given; gone = k.gone };
   acted = λ x c k change thread. record { given = k.given; gone = k.gone };

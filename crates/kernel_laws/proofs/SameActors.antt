@@ -8,9 +8,9 @@ use Rattle.kernel_values.specs.declared.world.ClientState.{ClientState}
 use Rattle.kernel_values.specs.declared.state.State.{State}
 use Rattle.kernel_types.specs.History.{next_state, state_after, state_or}
 use Rattle.kernel_types.specs.CoreStep.{status_of}
-use Rattle.kernel_types.specs.Step.{Stepped, step, statuses}
+use Rattle.kernel_types.specs.Step.{Stepped, client_status, step, statuses}
 use Rattle.kernel_laws.specs.Actors.{HasSameActors, kinds}
-use Rattle.kernel_laws.proofs.Standing.{StepStands, WorldIs, step_stands, step_world}
+use Rattle.kernel_laws.proofs.Standing.{ClientsStay, StepStands, step_clients, step_stands}
 
 map_map : (threads : List Thread) → map (λ (n : ℕ). Some n) (map (λ (thread : Thread). thread.app) threads) ≡ map (λ (thread : Thread). Some thread.app) threads
 map_map [] = refl
@@ -20,21 +20,21 @@ same_kinds : (threads others : List Thread) → map (λ (thread : Thread). threa
     → map (λ (thread : Thread). Some thread.app) others ≡ map (λ (thread : Thread). Some thread.app) threads
 same_kinds threads others same = sym (map_map others) ∙ (ap (λ os. map (λ (n : ℕ). Some n) os) same ∙ map_map threads)
 
-stepped_same : (s : State) (o : Option Stepped) → StepStands s o → WorldIs s.world o → (r : Stepped) → o ≡ Some r → HasSameActors s r.state
-stepped_same s None by world r is = absurd (cc)
-stepped_same s (Some stepped) by world r is =
+stepped_same : (s : State) (o : Option Stepped) → StepStands s o → ClientsStay s o → (r : Stepped) → o ≡ Some r → HasSameActors s r.state
+stepped_same s None by clients r is = absurd (cc)
+stepped_same s (Some stepped) by clients r is =
     let same : stepped ≡ r = cc in
     let threads : map (λ (thread : Thread). Some thread.app) stepped.state.core.threads ≡ map (λ (thread : Thread). Some thread.app) s.core.threads =
     same_kinds s.core.threads stepped.state.core.threads by.owners_are in
     let here : HasSameActors s stepped.state = record {
       kinds = ap (λ ks. ks ++ map (λ (client : ClientState). None) stepped.state.world.clients) threads
-          ∙ ap (λ w. map (λ (thread : Thread). Some thread.app) s.core.threads ++ map (λ (client : ClientState). None) w.clients) world;
+          ∙ ap (λ cs. map (λ (thread : Thread). Some thread.app) s.core.threads ++ cs) clients;
       manifests = by.manifests_are;
     } in
     subst (λ (x : Stepped). HasSameActors s x.state) same here
 
 pub steps_keep : (s : State) (e : Event) (r : Stepped) → step s e ≡ Some r → HasSameActors s r.state
-steps_keep s e r is = stepped_same s (step s e) (step_stands s e) (step_world s e) r is
+steps_keep s e r is = stepped_same s (step s e) (step_stands s e) (step_clients s e) r is
 
 next_same : (s : State) (o : Option Stepped) → ((r : Stepped) → o ≡ Some r → HasSameActors s r.state) → HasSameActors s (state_or s o)
 next_same s None keeps = record { kinds = refl; manifests = refl }
@@ -51,7 +51,7 @@ pub one_status_each : (s : State) → length (statuses s) ≡ length (kinds s)
 unfolding statuses
 one_status_each s =
     let f : Thread → _ = λ (thread : Thread). status_of thread.activity in
-    let g : ClientState → _ = λ (client : ClientState). client.status in
+    let g : ClientState → _ = λ (client : ClientState). client_status client.activity in
     let k : Thread → Option ℕ = λ thread. Some thread.app in
     let n : ClientState → Option ℕ = λ client. None in
     omega (

@@ -1,11 +1,11 @@
 -- No call changes which actors there are, nor a manifest.
-use Rattle.std.proofs.Common.{◌≡◌, ℕ, zero, suc, ◌+◌, ◌==◌, true, false, cond, List, [], ◌∷◌, map, Option, Some, None, refl, ◌∙◌, ap}
+use Rattle.std.proofs.Common.{◌≡◌, ℕ, ◌+◌, ◌==◌, true, false, cond, List, map, Option, Some, None, refl, ◌∙◌, ap}
 use Rattle.std.specs.Prelude.{slice_get}
 use Rattle.std.specs.Option.{option_map}
 use Rattle.kernel_values.specs.declared.state.CoreState.{CoreState}
 use Rattle.kernel_laws.proofs.Walk.{Kept, StepKeeps, step_keeps}
 use Rattle.kernel_values.specs.declared.world.World.{World}
-use Rattle.kernel_types.specs.Objects.{map_at, set_if}
+use Rattle.kernel_types.specs.Objects.{map_at}
 use Rattle.kernel_types.specs.Tables.{table_changed}
 use Rattle.kernel_types.specs.Applications.{ended_activity, started, started_as, application_ended, is_started_again, without_app, started_app, started_thread, ended_app, ended_thread}
 use Rattle.kernel_types.specs.Outcome.{Outcome}
@@ -14,26 +14,17 @@ use Rattle.kernel_types.specs.Threads.{activity_changed}
 use Rattle.kernel_values.specs.declared.entry.Event.{Event}
 use Rattle.kernel_values.specs.declared.state.State.{State}
 use Rattle.kernel_types.specs.CoreStep.{core_begin, core_resume, core_idle, cancelled_activity}
-use Rattle.kernel_types.specs.Step.{Stepped, idle, idle_lawful, in_world, is_built_event, full_step, step}
+use Rattle.kernel_types.specs.Clients.{Acted, client_cancelled, client_changed}
+use Rattle.kernel_types.specs.Device.{DeviceStep, device_step}
+use Rattle.kernel_types.specs.Limits.{Room, full_room, room_of_call}
+use Rattle.kernel_types.specs.Step.{Stepped, beside_core, client_begin, client_number, client_resume, device_stepped, idle, idle_lawful, in_world, is_built_event, is_thread, full_step, next_deadline, step, world_idle}
+use Rattle.kernel_laws.proofs.Bridged.{DeviceKeepsIf, any_change, device_keeps}
+use Rattle.kernel_laws.proofs.Mapped.{map_at_same, mapped_same}
+use Rattle.kernel_laws.proofs.Worlds.{ActsIf, begin_acts, nobody, resume_acts}
 use Rattle.kernel_values.specs.declared.scene.Manifest.{Manifest}
 use Rattle.kernel_values.specs.declared.state.Thread.{Thread}
 use Rattle.kernel_values.specs.declared.entry.Event.TheVariants as event
 use Rattle.kernel_values.specs.declared.state.Activity.TheVariants as activity
-
--- A change that keeps something of each element.
-
-mapped_same : {X Y : Type 0} (g : X → Y) (f : X → X) → ((x : X) → g (f x) ≡ g x) → (xs : List X) → map g (map f xs) ≡ map g xs
-mapped_same g f same [] = refl
-mapped_same g f same (x ∷ xs) = cc (same x, mapped_same g f same xs)
-
-map_at_same : {X Y : Type 0} (g : X → Y) (f : X → X) → ((x : X) → g (f x) ≡ g x) → (xs : List X) (at : ℕ) → map g (map_at f xs at) ≡ map g xs
-map_at_same g f same [] at = refl
-map_at_same g f same (x ∷ xs) zero = ap (λ y. y ∷ map g xs) (same x)
-map_at_same g f same (x ∷ xs) (suc at) =
-    let rest : map g (set_if xs at (option_map f (slice_get xs at))) ≡ map g xs = map_at_same g f same xs at in
-    let Q : Option _ → Type 0 = λ o. map g (set_if xs at o) ≡ map g xs → map g (set_if (x ∷ xs) (suc at) o) ≡ map g (x ∷ xs) in
-    let go : (o : Option _) → Q o = λ o. elim o as (λ v. Q v) [ None ↦ (λ is. refl) | Some y ↦ (λ is. ap (λ ys. g x ∷ ys) is) ] in
-    go (option_map f (slice_get xs at)) rest
 
 -- these manifests, and threads of these applications
 pub record Stand (manifests : List Manifest) (owners : List ℕ) (apps : List Application) (threads : List Thread) : Type 0 where
@@ -91,10 +82,10 @@ module _ (ms : List Manifest) (os : List ℕ) where
   idle_stands c k None = threads_changed (activity_changed cancelled_activity) (λ x. refl) c.apps c.threads k
   idle_stands c k (Some deadline) = k
 
--- a step leaves the clients
-abbrev pub WorldIs : World → Option Stepped → Type 0
-WorldIs world None = Unit {0}
-WorldIs world (Some stepped) = stepped.state.world ≡ world
+-- a step leaves as many clients
+abbrev pub ClientsStay : State → Option Stepped → Type 0
+ClientsStay s None = Unit {0}
+ClientsStay s (Some stepped) = map nobody stepped.state.world.clients ≡ map nobody s.world.clients
 
 abbrev Unit₀ : Type 0
 Unit₀ = Unit {0}
@@ -105,6 +96,7 @@ standings ms os = record {
   holds = λ x c. StandIn ms os c;
   moved = λ x seqs. x;
   still = λ x c k. k;
+  both = λ x opened retired. refl;
   changed_one = λ x c k f quiet id. k;
   changed_all = λ x c k h keeps quiet. k;
   fewer = λ x c k p. k;
@@ -113,6 +105,7 @@ standings ms os = record {
   sent = λ x c k bytes parts id end is. k;
   opened = λ x c k number message id end is first. k;
   retired = λ x c k number message id end is first. k;
+  bridged = λ x c k ends. k;
   tabled = λ x c k change app. app_changed ms os (table_changed change) (λ a. refl) c.apps c.threads k app;
   reported = λ x c k app handle. app_changed ms os (λ a. record a { last = Some handle }) (λ a. refl) c.apps c.threads k app;
   acted = λ x c k change thread. thread_changed ms os (activity_changed change) (λ t. refl) c.apps c.threads k thread;
@@ -121,20 +114,41 @@ standings ms os = record {
   idled = λ x c k deadline. idle_stands ms os c k deadline;
 }
 
-same_world : (world : World) (o : Option Outcome) → WorldIs world (option_map (in_world world) o)
-same_world world None = tt
-same_world world (Some outcome) = refl
+in_world_stay : (s : State) (o : Option Outcome) → ClientsStay s (option_map (in_world s.world) o)
+in_world_stay s None = tt
+in_world_stay s (Some outcome) = refl
 
-full_step_world : (s : State) (ev : Event) → WorldIs s.world (full_step s ev)
+beside_stay : (s : State) (room : Room) (o : Option Acted) → ActsIf room s.world o → ClientsStay s (option_map (beside_core s.core) o)
+beside_stay s room None acts = tt
+beside_stay s room (Some acted) acts = acts.world.clients
+
+device_stay : (s : State) (o : Option DeviceStep) → DeviceKeepsIf s (any_change s.core) o → ClientsStay s (option_map device_stepped o)
+device_stay s None keeps = tt
+device_stay s (Some done) keeps = ap (map nobody) keeps.clients
+
+idle_stay : (deadline : Option ℕ) (w : World) → map nobody (world_idle deadline w).clients ≡ map nobody w.clients
+unfolding world_idle
+idle_stay (Some deadline) w = refl
+idle_stay None w = mapped_same nobody (client_changed client_cancelled) (λ x. refl) w.clients
+
+full_step_clients : (s : State) (ev : Event) → ClientsStay s (full_step s ev)
 unfolding full_step
-full_step_world s (event.Begin actor start asked) = same_world s.world (core_begin s.core actor.0 start asked)
-full_step_world s (event.Resume actor start) = same_world s.world (core_resume s.core actor.0 start)
-full_step_world s event.Device = tt
-full_step_world s event.Idle = elim (idle_lawful s) as (λ b. WorldIs s.world (cond b (Some (idle s)) None)) [ true ↦ refl | false ↦ tt ]
+full_step_clients s (event.Begin actor start asked) =
+    let thread : Option Outcome = core_begin s.core actor.0 start asked in
+    let client : Option Acted = client_begin s (client_number s actor.0) start asked in
+    elim (is_thread s actor.0) as (λ b. ClientsStay s (cond b (option_map (in_world s.world) thread) (option_map (beside_core s.core) client)))
+    [ true ↦ in_world_stay s thread | false ↦ beside_stay s (room_of_call asked) client (begin_acts s (client_number s actor.0) start asked) ]
+full_step_clients s (event.Resume actor start) =
+    let thread : Option Outcome = core_resume s.core actor.0 start in
+    let client : Option Acted = client_resume s (client_number s actor.0) start in
+    elim (is_thread s actor.0) as (λ b. ClientsStay s (cond b (option_map (in_world s.world) thread) (option_map (beside_core s.core) client)))
+    [ true ↦ in_world_stay s thread | false ↦ beside_stay s full_room client (resume_acts s (client_number s actor.0) start) ]
+full_step_clients s event.Device = device_stay s (device_step s) (device_keeps s (any_change s.core))
+full_step_clients s event.Idle = elim (idle_lawful s) as (λ b. ClientsStay s (cond b (Some (idle s)) None)) [ true ↦ idle_stay (next_deadline s) s.world | false ↦ tt ]
 
-pub step_world : (s : State) (ev : Event) → WorldIs s.world (step s ev)
+pub step_clients : (s : State) (ev : Event) → ClientsStay s (step s ev)
 unfolding step
-step_world s ev = elim (is_built_event ev) as (λ b. WorldIs s.world (cond b (full_step s ev) None)) [ true ↦ full_step_world s ev | false ↦ tt ]
+step_clients s ev = elim (is_built_event ev) as (λ b. ClientsStay s (cond b (full_step s ev) None)) [ true ↦ full_step_clients s ev | false ↦ tt ]
 
 -- a step leaves these manifests and threads
 abbrev pub StepStands : State → Option Stepped → Type 0

@@ -1,7 +1,7 @@
 -- Every step is a row of small changes, each under what the call tested. What each of them keeps, every step keeps.
-use Rattle.std.proofs.Common.{◌≡◌, ℕ, ◌+◌, ◌++◌, ◌==◌, Bool, true, false, cond, not, List, [], ◌∷◌, length, map, take, Option, Some, None, refl, subst, drop, min}
-use Rattle.std.specs.Prelude.{if◌then◌else◌, slice_get, nat_lt, nat_le}
-use Rattle.std.specs.List.{list_all, list_any, find, filter}
+use Rattle.std.proofs.Common.{◌≡◌, ℕ, ◌+◌, ◌++◌, ◌==◌, Bool, true, false, cond, not, List, [], ◌∷◌, length, map, take, Option, Some, None, refl, ◌∙◌, ap, subst, drop, min}
+use Rattle.std.specs.Prelude.{if◌then◌else◌, slice_get, nat_lt, nat_le, Result, Ok, Err}
+use Rattle.std.specs.List.{list_all, list_any, find, filter, fold}
 use Rattle.std.specs.Option.{is_some, option_map}
 use Rattle.kernel_values.specs.declared.call.Timeout.{Timeout}
 use Rattle.kernel_values.specs.declared.errno.Errno.{Errno}
@@ -49,8 +49,13 @@ use Rattle.kernel_values.specs.declared.world.World.{World}
 use Rattle.kernel_values.specs.declared.state.State.{State}
 use Rattle.kernel_types.specs.Reach.{is_in}
 use Rattle.kernel_types.specs.Sweep.{reached, pruned, pruned_port, kept, cut_end, sweep}
-use Rattle.kernel_types.specs.CoreStep.{act, swept, begin_as, begin_of, core_begin, resumed, resume_as, resume_of, core_resume, least_deadline, core_idle}
-use Rattle.kernel_types.specs.Step.{Stepped, idle, idle_lawful, in_world, is_built_event, full_step, step}
+use Rattle.kernel_types.specs.CoreStep.{act, swept, begin_as, begin_of, core_begin, resumed, resume_as, resume_of, core_resume, core_idle}
+use Rattle.kernel_types.specs.Step.{Stepped, beside_core, client_begin, client_number, client_resume, device_stepped, idle, idle_lawful, in_world, is_built_event, is_thread, full_step, next_deadline, step}
+use Rattle.kernel_types.specs.Bridge.{bridging, ns_connect, ns_connect_by, ns_push, push_from, ns_take, take_from, with_error, peer_marked, marked_if, unbridged, ns_drop}
+use Rattle.kernel_types.specs.Clients.{Acted}
+use Rattle.kernel_types.specs.Device.{DeviceStep, device_step, entry_dropped}
+use Rattle.kernel_values.specs.declared.entry.EndSeq.{EndSeq}
+use Rattle.kernel_values.specs.declared.world.BridgeEntry.{BridgeEntry}
 use Rattle.kernel_values.specs.declared.entry.Seqs.{Seqs}
 use Rattle.kernel_values.specs.declared.errno.Errno.TheVariants as errno
 use Rattle.kernel_values.specs.declared.state.Body.TheVariants as body
@@ -61,8 +66,18 @@ use Rattle.kernel_values.specs.declared.state.Connector.TheVariants as connector
 use Rattle.kernel_values.specs.declared.call.Call.TheVariants as call
 use Rattle.kernel_values.specs.declared.entry.Event.TheVariants as event
 use Rattle.kernel_values.specs.declared.state.Activity.TheVariants as activity
+use Rattle.kernel_laws.proofs.Bridged.{OfDevice, DeviceKeepsIf, device_keeps}
 use Rattle.kernel_laws.proofs.Tales.{IsFresh}
 use Rattle.kernel_laws.proofs.Tells.{Quiet, queue_in, quiet_end, quiet_port, quiet_set, quiet_memory}
+
+abbrev pub only_opened : Option EndSeq → Seqs
+only_opened seq = record { sent = None; opened = seq; retired = None }
+
+abbrev pub only_retired : Option EndSeq → Seqs
+only_retired seq = record { sent = None; opened = None; retired = seq }
+
+abbrev pub both_seqs : Option EndSeq → Option EndSeq → Seqs
+both_seqs opened retired = record { sent = None; opened = opened; retired = retired }
 
 -- what holds of a state, in the light of the messages that moved so far, and that every change keeps
 pub record Kept (X : Type 0) : Type 1 where
@@ -70,6 +85,8 @@ pub record Kept (X : Type 0) : Type 1 where
   pub moved : X → Seqs → X
   -- nothing moved
   pub still : (x : X) (c : CoreState) → holds x c → holds (moved x no_seqs) c
+  -- a message that is opened and one that is retired move as one after the other
+  pub both : (x : X) (opened retired : Option EndSeq) → moved (moved x (only_opened opened)) (only_retired retired) ≡ moved x (both_seqs opened retired)
   -- objects, whose queues stay
   pub changed_one : (x : X) (c : CoreState) → holds x c → (f : Body → Body) → Quiet f → (id : ℕ) → holds x (with_objects (changed f c.objects id) c)
   pub changed_all : (x : X) (c : CoreState) → holds x c → (h : Object → Object) → ((object : Object) → (h object).id ≡ object.id)
@@ -84,6 +101,8 @@ pub record Kept (X : Type 0) : Type 1 where
       → find is_filled end.messages ≡ Some message → holds (moved x (opened_seq id message.seq)) (end_changed (with_opened number) id c)
   pub retired : (x : X) (c : CoreState) → holds x c → (number : ℕ) (message : Message) (id : ℕ) (end : ChannelEnd) → end_of c.objects id ≡ Some end
       → find (is_opened_as number) end.messages ≡ Some message → holds (moved x (retired_seq id message.seq)) (end_changed (without_opened number) id c)
+  -- the ends that the bridge names
+  pub bridged : (x : X) (c : CoreState) → holds x c → (ends : List ℕ) → holds x (record c { bridged = ends })
   -- applications, threads and the clock
   pub tabled : (x : X) (c : CoreState) → holds x c → (change : List TableEntry → List TableEntry) (app : ℕ) → holds x (with_table change app c)
   pub reported : (x : X) (c : CoreState) → holds x c → (app handle : ℕ) → holds x (with_last_reported app handle c)
@@ -91,6 +110,22 @@ pub record Kept (X : Type 0) : Type 1 where
   pub begun : (x : X) (c : CoreState) → holds x c → (app : ℕ) → holds x (started app c)
   pub over : (x : X) (c : CoreState) → holds x c → (app : ℕ) → holds x (application_ended app c)
   pub idled : (x : X) (c : CoreState) → holds x c → (deadline : Option ℕ) → holds x (core_idle deadline c)
+
+get_message_seqs : (c : CoreState) (object : ℕ) (end : ChannelEnd) (message : Option Message)
+    → (get_message c object end message).seqs ≡ only_opened (get_message c object end message).seqs.opened
+get_message_seqs c object end (Some message) = refl
+get_message_seqs c object end None =
+    elim (is_disconnected end.state) as (λ b. (cond b (refuses errno.ChannelClosed c) (refuses errno.NoMsg c)).seqs ≡ only_opened (cond b (refuses errno.ChannelClosed c) (refuses errno.NoMsg c)).seqs.opened)
+    [ true ↦ refl | false ↦ refl ]
+
+put_message_seqs : (c : CoreState) (object : ℕ) (end : ChannelEnd) (id : ℕ) (message : Option Message)
+    → (put_message c object end id message).seqs ≡ only_retired (put_message c object end id message).seqs.retired
+put_message_seqs c object end id None = refl
+put_message_seqs c object end id (Some message) = refl
+
+put_seqs : (c : CoreState) (object id : ℕ) (end : Option ChannelEnd) → (put_from c object id end).seqs ≡ only_retired (put_from c object id end).seqs.retired
+put_seqs c object id None = refl
+put_seqs c object id (Some end) = put_message_seqs c object end id (find (is_opened_as id) end.messages)
 
 -- an outcome keeps it
 pub record Keeps (X : Type 0) (L : Kept X) (x : X) (outcome : Outcome) : Type 0 where
@@ -602,15 +637,115 @@ module _ (X : Type 0) (L : Kept X) where
   in_world_keeps x world None keeps = tt
   in_world_keeps x world (Some outcome) keeps = keeps.kept
 
+  -- The calls of the bridge.
+
+  abbrev MadeKeeps : X → Result CoreState Errno → Type 0
+  MadeKeeps x (Err errno) = Unit {0}
+  MadeKeeps x (Ok made) = L.holds x made
+
+  ns_way_keeps : (x : X) (way : Way) (c : CoreState) → L.holds x c → (path : List ℕ) → MadeKeeps x (ns_connect_by way c path)
+  ns_way_keeps x (to_port id port) c k path =
+      let made : CoreState = bridging c.next (pending_pair connector.NormalWorld id port c) in
+      let keeps : L.holds x made = L.bridged x _ (pair_kept x c k connector.NormalWorld id port) _ in
+      elim (not (admits port.flags connector.NormalWorld)) as (λ b. MadeKeeps x (cond b (Err errno.AccessDenied) (Ok (sweep made)))) [ true ↦ tt | false ↦ swept_kept x made keeps ]
+  ns_way_keeps x (to_start place start) c k path =
+      let waits : CoreState = bridging c.next (waiting_client connector.NormalWorld path c) in
+      let made : CoreState = started_unless_running place (slice_get c.apps place) waits in
+      let keeps : L.holds x made = started_kept x waits (L.bridged x _ (client_kept x c k connector.NormalWorld path) _) place (slice_get c.apps place) in
+      elim (not (admits start connector.NormalWorld)) as (λ b. MadeKeeps x (cond b (Err errno.AccessDenied) (Ok (sweep made)))) [ true ↦ tt | false ↦ swept_kept x made keeps ]
+  ns_way_keeps x to_nothing c k path = tt
+
+  ns_connect_keeps : (x : X) (c : CoreState) → L.holds x c → (path : List ℕ) → MadeKeeps x (ns_connect c path)
+  unfolding ns_connect
+  ns_connect_keeps x c k path = ns_way_keeps x (way_of c path) c k path
+
+  made_kept : (x : X) (r : Result CoreState Errno) (made : CoreState) → MadeKeeps x r → r ≡ Ok made → L.holds x made
+  made_kept x (Err errno) made keeps is = absurd (cc)
+  made_kept x (Ok other) made keeps is = let same : other ≡ made = cc in subst (λ (d : CoreState). L.holds x d) same keeps
+
+  ns_push_keeps : (x : X) (c : CoreState) → L.holds x c → (end : ℕ) (bytes : List ℕ) → L.holds (L.moved x (ns_push c end bytes).seqs) (ns_push c end bytes).core
+  unfolding ns_push
+  ns_push_keeps x c k end bytes =
+      elim (end_of c.objects end) as (λ o. L.holds (L.moved x (push_from c end bytes o).seqs) (push_from c end bytes o).core) [
+        | None ↦ L.still x c k
+        | Some from ↦
+            let outcome : Outcome = deliver c end from.peer (peer_end c.objects from.peer) bytes [] in
+            let keeps : Keeps X L x outcome = deliver_keeps x c k end from.peer (peer_end c.objects from.peer) refl bytes [] in
+            swept_kept (L.moved x outcome.seqs) outcome.core keeps.kept
+      ]
+
+  ns_take_keeps : (x : X) (c : CoreState) → L.holds x c → (id : ℕ) → L.holds (L.moved x (ns_take c id).seqs) (ns_take c id).core
+  unfolding ns_take
+  ns_take_keeps x c k id =
+      let P : Option ChannelEnd → Type 0 = λ o. end_of c.objects id ≡ o → L.holds (L.moved x (take_from c id o).seqs) (take_from c id o).core in
+      let took : (end : ChannelEnd) → P (Some end) = λ end is.
+      let got : Outcome = get_message c id end (find is_filled end.messages) in
+      let opened : Keeps X L x got = get_message_keeps x c k id end is (find is_filled end.messages) refl in
+      let number : ℕ = free_id end.messages in
+      let last : Option ChannelEnd = end_of got.core.objects id in
+      let done : Outcome = put_from got.core id number last in
+      let y : X = L.moved x got.seqs in
+      let retired : Keeps X L y done = put_from_keeps y got.core opened.kept id number last refl in
+      let apart : L.moved y done.seqs ≡ L.moved x (both_seqs got.seqs.opened done.seqs.retired) =
+      ap (λ q. L.moved (L.moved x q) done.seqs) (get_message_seqs c id end (find is_filled end.messages))
+      ∙ (ap (λ q. L.moved (L.moved x (only_opened got.seqs.opened)) q) (put_seqs got.core id number last) ∙ L.both x got.seqs.opened done.seqs.retired) in
+      swept_kept (L.moved x (both_seqs got.seqs.opened done.seqs.retired)) done.core (subst (λ (z : X). L.holds z done.core) apart retired.kept) in
+      let go : (o : Option ChannelEnd) → P o = λ o. elim o as (λ v. P v) [ None ↦ (λ is. L.still x c k) | Some end ↦ took end ] in
+      go (end_of c.objects id) refl
+
+  marked_kept : (x : X) (c : CoreState) → L.holds x c → (broken : Bool) (end : ℕ) → L.holds x (marked_if broken end c)
+  marked_kept x c k false end = k
+  marked_kept x c k true end =
+      elim (peer_of (end_of c.objects end)) as (λ o. L.holds x (peer_marked o c)) [ None ↦ k | Some peer ↦ end_kept x c k with_error (λ e. refl) (λ e. refl) peer ]
+
+  ns_drop_kept : (x : X) (c : CoreState) → L.holds x c → (broken : Bool) (end : ℕ) → L.holds x (ns_drop broken end c)
+  unfolding ns_drop
+  ns_drop_kept x c k broken end =
+      let marked : CoreState = marked_if broken end c in
+      swept_kept x (unbridged end marked) (L.bridged x marked (marked_kept x c k broken end) (unbridged end marked).bridged)
+
+  all_dropped : (x : X) (c : CoreState) → L.holds x c → (entries : List BridgeEntry) → L.holds x (fold entry_dropped c entries)
+  all_dropped x c k [] = k
+  all_dropped x c k (entry ∷ entries) = all_dropped x (ns_drop true entry.end c) (ns_drop_kept x c k true entry.end) entries
+
+  -- what the device does to the core keeps it
+  of_device : (x : X) (c : CoreState) → L.holds x c → OfDevice c
+  of_device x c k = record {
+    holds = λ change. L.holds (L.moved x change.seqs) change.core;
+    left = L.still x c k;
+    connected = λ path made is. L.still x made (made_kept x (ns_connect c path) made (ns_connect_keeps x c k path) is);
+    pushed = λ end bytes few. ns_push_keeps x c k end bytes;
+    taken = λ end. ns_take_keeps x c k end;
+    dropped = λ end. L.still x _ (ns_drop_kept x c k false end);
+    broke = λ entries. L.still x _ (all_dropped x c k entries);
+  }
+
+  beside_keeps : (x : X) (c : CoreState) → L.holds x c → (o : Option Acted) → StepKeeps x (option_map (beside_core c) o)
+  beside_keeps x c k None = tt
+  beside_keeps x c k (Some acted) = L.still x c k
+
+  of_device_keeps : (x : X) (s : State) (k : L.holds x s.core) (o : Option DeviceStep) → DeviceKeepsIf s (of_device x s.core k) o → StepKeeps x (option_map device_stepped o)
+  unfolding of_device
+  of_device_keeps x s k None keeps = tt
+  of_device_keeps x s k (Some done) keeps = keeps.kept
+
   full_step_keeps : (x : X) (s : State) → L.holds x s.core → (ev : Event) → StepKeeps x (full_step s ev)
   unfolding full_step
-  full_step_keeps x s k (event.Begin actor start asked) = in_world_keeps x s.world (core_begin s.core actor.0 start asked) (begin_keeps x s.core k actor.0 start asked)
-  full_step_keeps x s k (event.Resume actor start) = in_world_keeps x s.world (core_resume s.core actor.0 start) (resume_keeps x s.core k actor.0 start)
-  full_step_keeps x s k event.Device = tt
+  full_step_keeps x s k (event.Begin actor start asked) =
+      let thread : Option Outcome = core_begin s.core actor.0 start asked in
+      let client : Option Acted = client_begin s (client_number s actor.0) start asked in
+      elim (is_thread s actor.0) as (λ b. StepKeeps x (cond b (option_map (in_world s.world) thread) (option_map (beside_core s.core) client)))
+      [ true ↦ in_world_keeps x s.world thread (begin_keeps x s.core k actor.0 start asked) | false ↦ beside_keeps x s.core k client ]
+  full_step_keeps x s k (event.Resume actor start) =
+      let thread : Option Outcome = core_resume s.core actor.0 start in
+      let client : Option Acted = client_resume s (client_number s actor.0) start in
+      elim (is_thread s actor.0) as (λ b. StepKeeps x (cond b (option_map (in_world s.world) thread) (option_map (beside_core s.core) client)))
+      [ true ↦ in_world_keeps x s.world thread (resume_keeps x s.core k actor.0 start) | false ↦ beside_keeps x s.core k client ]
+  full_step_keeps x s k event.Device = of_device_keeps x s k (device_step s) (device_keeps s (of_device x s.core k))
   full_step_keeps x s k event.Idle =
-      let idled : CoreState = core_idle (least_deadline s.core) s.core in
+      let idled : CoreState = core_idle (next_deadline s) s.core in
       elim (idle_lawful s) as (λ b. StepKeeps x (cond b (Some (idle s)) None)) [
-        | true ↦ L.still x (sweep idled) (swept_kept x idled (L.idled x s.core k (least_deadline s.core)))
+        | true ↦ L.still x (sweep idled) (swept_kept x idled (L.idled x s.core k (next_deadline s)))
         | false ↦ tt
       ]
 

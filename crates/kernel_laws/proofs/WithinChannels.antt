@@ -65,7 +65,7 @@ without_opened_within id end e =
 
 -- The calls.
 
-deliver_fine : (c : CoreState) → WithinCore c → (id : ℕ) (peer : Option ℕ) (end : Option ChannelEnd) → peer_end c.objects peer ≡ end
+pub deliver_fine : (c : CoreState) → WithinCore c → (id : ℕ) (peer : Option ℕ) (end : Option ChannelEnd) → peer_end c.objects peer ≡ end
     → (bytes parts : List ℕ) → length bytes ≤ 4096 → length parts ≤ 8 → Fine (deliver c id peer end bytes parts)
 deliver_fine c w id None None is bytes parts bytes_few parts_few = refused errno.ChannelClosed c w
 deliver_fine c w id None (Some end) is bytes parts bytes_few parts_few = refused errno.ChannelClosed c w
@@ -103,7 +103,7 @@ send_fine c w app chan bytes parts =
       | Some entry ↦ send_from_fine c w entry.object (table_of c app) bytes parts (end_of c.objects entry.object) refl
     ]
 
-get_message_fine : (c : CoreState) → WithinCore c → (object : ℕ) (end : ChannelEnd) (message : Option Message) → Fine (get_message c object end message)
+pub get_message_fine : (c : CoreState) → WithinCore c → (object : ℕ) (end : ChannelEnd) (message : Option Message) → Fine (get_message c object end message)
 get_message_fine c w object end None =
     fine_if (is_disconnected end.state) (refuses errno.ChannelClosed c) (refuses errno.NoMsg c) (λ is. refused errno.ChannelClosed c w) (λ is. refused errno.NoMsg c w)
 get_message_fine c w object end (Some message) =
@@ -111,16 +111,19 @@ get_message_fine c w object end (Some message) =
     given (reply.Message (free_id end.messages) (length message.bytes) (length message.parts)) (omega arith) (omega arith) (omega arith) (opened_seq object message.seq) (end_changed change object c)
     (within_changed (on_end change) (keeps_end change (with_opened_within (free_id end.messages))) c.objects w object)
 
+get_from_fine : (c : CoreState) → WithinCore c → (object : ℕ) (end : Option ChannelEnd) → Fine (get_from c object end)
+get_from_fine c w object None = refused errno.InvalidArgs c w
+get_from_fine c w object (Some end) =
+    refused_unless (is_unconnected end.state) errno.NotReady c (get_message c object end (find is_filled end.messages)) w
+    (λ is. get_message_fine c w object end (find is_filled end.messages))
+
 pub get_fine : (c : CoreState) → WithinCore c → (app chan : ℕ) → Fine (get c app chan)
 unfolding get
 get_fine c w app chan =
-    let from : (object : ℕ) (end : Option ChannelEnd) → Fine (get_from c object end) =
-    λ object end. elim end as (λ o. Fine (get_from c object o)) [
-      | None ↦ refused errno.InvalidArgs c w
-      | Some end ↦ refused_unless (is_unconnected end.state) errno.NotReady c (get_message c object end (find is_filled end.messages)) w
-          (λ is. get_message_fine c w object end (find is_filled end.messages))
-    ] in
-    elim (entry_at (table_of c app) chan) as (λ o. Fine (get_entry c o)) [ None ↦ refused errno.BadHandle c w | Some entry ↦ from entry.object (end_of c.objects entry.object) ]
+    elim (entry_at (table_of c app) chan) as (λ o. Fine (get_entry c o)) [
+      | None ↦ refused errno.BadHandle c w
+      | Some entry ↦ get_from_fine c w entry.object (end_of c.objects entry.object)
+    ]
 
 -- a message's parts get a number each
 handles_length : (table : List TableEntry) (objects : List ℕ) → length (all_handles table objects) ≡ length objects
@@ -170,12 +173,14 @@ put_message_fine c w object end id (Some message) =
     given reply.Done (omega arith) (omega arith) (omega arith) (retired_seq object message.seq) (peer_unblocked end.peer less)
     (unblocked_fine less (within_changed (on_end (without_opened id)) (keeps_end (without_opened id) (without_opened_within id)) c.objects w object) end.peer)
 
+pub put_from_fine : (c : CoreState) → WithinCore c → (object id : ℕ) (end : Option ChannelEnd) → Fine (put_from c object id end)
+put_from_fine c w object id None = refused errno.InvalidArgs c w
+put_from_fine c w object id (Some end) = put_message_fine c w object end id (find (is_opened_as id) end.messages)
+
 pub put_fine : (c : CoreState) → WithinCore c → (app chan id : ℕ) → Fine (put c app chan id)
 unfolding put
 put_fine c w app chan id =
-    let from : (object : ℕ) (end : Option ChannelEnd) → Fine (put_from c object id end) =
-    λ object end. elim end as (λ o. Fine (put_from c object id o)) [
-      | None ↦ refused errno.InvalidArgs c w
-      | Some end ↦ put_message_fine c w object end id (find (is_opened_as id) end.messages)
-    ] in
-    elim (entry_at (table_of c app) chan) as (λ o. Fine (put_entry c id o)) [ None ↦ refused errno.BadHandle c w | Some entry ↦ from entry.object (end_of c.objects entry.object) ]
+    elim (entry_at (table_of c app) chan) as (λ o. Fine (put_entry c id o)) [
+      | None ↦ refused errno.BadHandle c w
+      | Some entry ↦ put_from_fine c w entry.object id (end_of c.objects entry.object)
+    ]

@@ -99,11 +99,11 @@ connected_fine made w c thread app flags =
     fine_if (is_asynchronous flags) (gives (reply.Handle handle) there) (waits_on thread (wait_on.Connect c.next handle) None there)
     (λ is. one_handle handle there w) (λ is. waiting_fine thread (wait_on.Connect c.next handle) None there w)
 
-waiting_within : (c : CoreState) → WithinCore c → (client : Connector) (path : List ℕ) → WithinCore (waiting_client client path c)
+pub waiting_within : (c : CoreState) → WithinCore c → (client : Connector) (path : List ℕ) → WithinCore (waiting_client client path c)
 waiting_within c w client path =
     within_appended c.objects _ w (new_end_within None end_state.Waiting (Some path) (Some client) 0 0 (omega arith) (omega arith) (λ h. refl), tt)
 
-pending_within : (c : CoreState) → WithinCore c → (client : Connector) (id : ℕ) (port : Port) → IsPortWithin port → WithinCore (pending_pair client id port c)
+pub pending_within : (c : CoreState) → WithinCore c → (client : Connector) (id : ℕ) (port : Port) → IsPortWithin port → WithinCore (pending_pair client id port c)
 pending_within c w client id port p =
     let one : Body = body.End (new_end (Some (c.next + 1)) end_state.Connecting None (Some client) port.bufs port.size) in
     let other : Body = server_end c.next port.bufs port.size in
@@ -113,7 +113,7 @@ pending_within c w client id port p =
     let change : Port → Port = λ x. record x { pending = x.pending ++ (c.next + 1) ∷ [] } in
     within_changed (on_port change) (keeps_port change (λ x q. record { size = q.size; bufs = q.bufs })) d.objects both id
 
-started_within : (c : CoreState) → WithinCore c → (place : ℕ) (app : Option Application) → WithinCore (started_unless_running place app c)
+pub started_within : (c : CoreState) → WithinCore c → (place : ℕ) (app : Option Application) → WithinCore (started_unless_running place app c)
 started_within c w place None = w
 started_within c w place (Some app) =
     elim app.running as (λ b. WithinCore (cond b c (started place c))) [ true ↦ w | false ↦ within_same c (started place c) (same_started place c) w ]
@@ -123,7 +123,7 @@ and_started_fine place o f = record { within = started_within o.core f.within pl
 
 -- a way to a port goes to a port that is there
 
-abbrev WayWithin : Way → Type 0
+abbrev pub WayWithin : Way → Type 0
 WayWithin (to_port id port) = IsPortWithin port
 WayWithin (to_start place flags) = Unit {0}
 WayWithin to_nothing = Unit {0}
@@ -136,7 +136,7 @@ way_by_app_within path place (Some app) =
       | Some port ↦ elim (may_serve app) as (λ b. WayWithin (cond b (to_start place port.flags) to_nothing)) [ true ↦ tt | false ↦ tt ]
     ]
 
-way_within : (c : CoreState) → WithinCore c → (path : List ℕ) → WayWithin (way_of c path)
+pub way_within : (c : CoreState) → WithinCore c → (path : List ℕ) → WayWithin (way_of c path)
 way_within c w path =
     let ported : (id : ℕ) (b : Body) → IsBodyWithin b → (port : Option Port) → port_in b ≡ port → WayWithin (way_by_body id port) =
     λ id b within port. elim port as (λ o. port_in b ≡ o → WayWithin (way_by_body id o)) [ None ↦ (λ is. tt) | Some p ↦ (λ is. port_in_within b within p is) ] in

@@ -1,51 +1,37 @@
 -- Every step leaves the objects within their limits, and answers little.
-use Rattle.std.proofs.Common.{◌≡◌, ℕ, ◌==◌, ◌&&◌, Bool, true, false, cond, not, List, Option, Some, None, arith}
-use Rattle.std.specs.Prelude.{slice_get}
-use Rattle.std.specs.List.{filter}
+use Rattle.std.proofs.Common.{◌≡◌, ◌≤◌, ◌<◌, ℕ, ◌+◌, ◌==◌, ◌&&◌, Bool, true, false, cond, not, length, map, Option, Some, None, refl, sym, ◌∙◌, ap, subst, arith, tests, length-append}
+use Rattle.std.specs.Prelude.{nat_le, slice_get}
 use Rattle.std.specs.Option.{option_map}
+use Rattle.std.proofs.lemmas.List.{length-map}
+use Rattle.std.proofs.lemmas.Option.{slice_get_within}
 use Rattle.kernel_values.specs.declared.call.Call.{Call}
 use Rattle.kernel_values.specs.declared.call.Call.TheVariants as call
+use Rattle.kernel_values.specs.declared.entry.ActorStatus.{ActorStatus}
 use Rattle.kernel_values.specs.declared.entry.Event.{Event}
 use Rattle.kernel_values.specs.declared.entry.Event.TheVariants as event
 use Rattle.kernel_values.specs.declared.state.Activity.{Activity}
 use Rattle.kernel_values.specs.declared.state.Activity.TheVariants as activity
-use Rattle.kernel_values.specs.declared.world.World.{World}
 use Rattle.kernel_values.specs.declared.state.CoreState.{CoreState}
 use Rattle.kernel_values.specs.declared.state.State.{State}
-use Rattle.kernel_types.specs.Ports.{is_waiting}
-use Rattle.kernel_values.specs.declared.state.ChannelEnd.{ChannelEnd}
-use Rattle.kernel_values.specs.declared.state.Port.{Port}
-use Rattle.kernel_values.specs.declared.state.EndState.TheVariants as end_state
-use Rattle.kernel_types.specs.Objects.{on_body, on_port, on_end}
+use Rattle.kernel_values.specs.declared.state.Thread.{Thread}
+use Rattle.kernel_values.specs.declared.world.ClientState.{ClientState}
+use Rattle.kernel_values.specs.declared.world.Driver.{Driver}
+use Rattle.kernel_values.specs.declared.world.World.{World}
+use Rattle.kernel_types.specs.Clients.{Acted}
+use Rattle.kernel_types.specs.CoreStep.{act, swept, begin_as, begin_of, core_begin, resumed, resume_as, resume_of, core_resume, core_idle, idle_answer, status_of}
+use Rattle.kernel_types.specs.Device.{DeviceStep, device_step}
+use Rattle.kernel_types.specs.Facts.{is_client}
+use Rattle.kernel_types.specs.Limits.{FitsIn, Room, full_room, no_room, path_room, room_of, room_of_call, IsSmallAnswer}
 use Rattle.kernel_types.specs.Outcome.{Outcome}
-use Rattle.kernel_types.specs.Reach.{is_in}
-use Rattle.kernel_types.specs.Sweep.{reached, pruned, pruned_port, kept, cut_end, sweep, is_live, is_marked}
+use Rattle.kernel_types.specs.Step.{Stepped, beside_core, client_begin, client_number, client_resume, client_resume_of, client_status, device_stepped, full_step, idle, idle_lawful, idle_until, in_world, is_built_event, is_thread, next_deadline, statuses, step, world_idle}
 use Rattle.kernel_types.specs.Waits.{end_of_wait}
-use Rattle.kernel_types.specs.CoreStep.{act, swept, begin_as, begin_of, core_begin, resumed, resume_as, resume_of, core_resume, least_deadline, core_idle, idle_answer}
-use Rattle.kernel_types.specs.Step.{Stepped, idle, idle_lawful, in_world, is_built_event, full_step, step}
-use Rattle.kernel_types.specs.Limits.{FitsIn, Room, no_room, room_of, room_of_call, IsEndWithin, IsSmallAnswer}
-use Rattle.kernel_laws.proofs.Within.{Within, WithinCore, within_mapped, within_filtered, keeps_end, keeps_port}
+use Rattle.kernel_laws.proofs.Bridged.{DeviceKeepsIf, device_keeps}
+use Rattle.kernel_laws.proofs.Within.{WithinCore}
+use Rattle.kernel_laws.proofs.WithinBridge.{swept_within, within_after, within_device}
 use Rattle.kernel_laws.proofs.WithinOthers.{cookie_fine, close_fine, dup_fine, set_fine, add_fine, del_fine, mod_fine, memref_fine, mread_fine, mwrite_fine, wait_fine, wait_any_fine, exit_fine, finish_fine}
 use Rattle.kernel_laws.proofs.WithinChannels.{send_fine, get_fine, read_fine, put_fine}
 use Rattle.kernel_laws.proofs.WithinConnections.{FineIfIn, FineIf, port_fine, connect_fine, accept_fine, end_of_wait_fine}
-
-cut_within : (marked : List ℕ) (end : ChannelEnd) → IsEndWithin end → IsEndWithin (cut_end marked end)
-cut_within marked end e =
-    let live : Bool = is_live end.state && not (is_marked marked end.peer) in
-    let waits : (b : Bool) → is_waiting (cond b end_state.Disconnected end.state) ≡ true → end.slots ≡ 0 =
-    λ b. elim b as (λ v. is_waiting (cond v end_state.Disconnected end.state) ≡ true → end.slots ≡ 0) [ true ↦ (λ h. absurd (cc)) | false ↦ e.waiting ] in
-    record { size = e.size; slots = e.slots; waiting = waits live; few = e.few; messages = e.messages }
-
-pub swept_within : (c : CoreState) → WithinCore c → WithinCore (sweep c)
-unfolding sweep pruned kept
-swept_within c w =
-    let less : CoreState = pruned (reached c) c in
-    let marked : List ℕ = reached less in
-    let prune : Port → Port = pruned_port (reached c) c.objects in
-    let cut : WithinCore less = within_mapped (on_body (on_port prune)) (λ object e. keeps_port prune (λ p q. record { size = q.size; bufs = q.bufs }) object.body e) c.objects w in
-    let there : Within (filter (λ object. is_in marked object.id) less.objects) = within_filtered (λ object. is_in marked object.id) less.objects cut in
-    within_mapped (on_body (on_end (cut_end marked))) (λ object e. keeps_end (cut_end marked) (cut_within marked) object.body e)
-    (filter (λ object. is_in marked object.id) less.objects) there
+use Rattle.kernel_laws.proofs.Worlds.{ActsIf, Inboxes, InboxesOf, begin_acts, resume_of_acts}
 
 idle_within : (c : CoreState) → WithinCore c → (deadline : Option ℕ) → WithinCore (core_idle deadline c)
 unfolding core_idle
@@ -120,14 +106,68 @@ resume_fine c w thread start =
     ] in
     elim (slice_get c.threads thread) as (λ o. FineIf (resume_of c thread start o)) [ None ↦ tt | Some found ↦ doing found.app found.activity ]
 
--- a step leaves objects within the limits, and its answer is small and fits in the room
+-- a state is within the limits
+pub record WithinState (s : State) : Type 0 where
+  pub objects : WithinCore s.core
+  pub inboxes : InboxesOf s.world
+
+-- a step leaves a state within the limits, and its answer is small and fits in the room
 abbrev pub StepFine : Room → Option Stepped → Type 0
 StepFine room None = Unit {0}
-StepFine room (Some stepped) = WithinCore stepped.state.core × IsSmallAnswer stepped.answer × FitsIn room stepped.answer
+StepFine room (Some stepped) = WithinState stepped.state × IsSmallAnswer stepped.answer × FitsIn room stepped.answer
 
-in_world_fine : (room : Room) (world : World) (o : Option Outcome) → FineIfIn room o → StepFine room (option_map (in_world world) o)
-in_world_fine room world None f = tt
-in_world_fine room world (Some outcome) f = (f.within, f.small, f.fits)
+in_world_fine : (room : Room) (world : World) → InboxesOf world → (o : Option Outcome) → FineIfIn room o → StepFine room (option_map (in_world world) o)
+in_world_fine room world inboxes None f = tt
+in_world_fine room world inboxes (Some outcome) f = (record { objects = f.within; inboxes = inboxes }, f.small, f.fits)
+
+-- what fits in no room fits in any
+roomier : (room : Room) (o : Option Stepped) → StepFine no_room o → StepFine room o
+roomier room None f = tt
+roomier room (Some stepped) f = (f.0, f.1, record { bytes = omega (arith, f.2.bytes); handles = omega (arith, f.2.handles) })
+
+beside_fine : (room : Room) (s : State) → WithinState s → (o : Option Acted) → ActsIf room s.world o → StepFine room (option_map (beside_core s.core) o)
+beside_fine room s w None acts = tt
+beside_fine room s w (Some acted) acts =
+    (record { objects = w.objects; inboxes = acts.world.inboxes w.inboxes }, acts.small w.inboxes, acts.fits w.inboxes)
+
+-- what a client's wait comes to fits in a client's room, since there is a client
+
+status_count : (s : State) → length (statuses s) ≡ length s.core.threads + length s.world.clients
+unfolding statuses
+status_count s =
+    let f : Thread → ActorStatus = λ thread. status_of thread.activity in
+    let g : ClientState → ActorStatus = λ client. client_status client.activity in
+    omega (arith, length-append (map f s.core.threads) (map g s.world.clients), length-map s.core.threads f, length-map s.world.clients g)
+
+there_is_client : (s : State) (actor : ℕ) (client : ClientState) → is_thread s actor ≡ false → slice_get s.world.clients (client_number s actor) ≡ Some client → is_client s actor ≡ true
+there_is_client s actor client other is =
+    let below : client_number s actor < length s.world.clients = slice_get_within s.world.clients (client_number s actor) client is in
+    let from : length s.core.threads ≤ actor = grind (arith, tests) in
+    let first : nat_le (length s.core.threads) actor ≡ true = grind (arith, tests) in
+    let most : actor < length (statuses s) = omega (arith, status_count s, below, from) in
+    let last : nat_le (length (statuses s)) actor ≡ false = grind (arith, tests) in
+    ap (λ b. b && not (nat_le (length (statuses s)) actor)) first ∙ ap not last
+
+client_resume_fine : (s : State) → WithinState s → (actor start : ℕ) → is_thread s actor ≡ false
+    → StepFine (cond (is_client s actor) full_room no_room) (option_map (beside_core s.core) (client_resume s (client_number s actor) start))
+unfolding client_resume
+client_resume_fine s w actor start other =
+    let P : Option ClientState → Type 0 = λ o. slice_get s.world.clients (client_number s actor) ≡ o
+    → StepFine (cond (is_client s actor) full_room no_room) (option_map (beside_core s.core) (client_resume_of s (client_number s actor) start o)) in
+    let ends : (client : ClientState) → P (Some client) = λ client is.
+    let stepped : Option Acted = client_resume_of s (client_number s actor) start (Some client) in
+    subst (λ (b : Bool). StepFine (cond b full_room no_room) (option_map (beside_core s.core) stepped)) (sym (there_is_client s actor client other is))
+    (beside_fine full_room s w stepped (resume_of_acts s (client_number s actor) start (Some client))) in
+    let go : (o : Option ClientState) → P o = λ o. elim o as (λ v. P v) [ None ↦ (λ is. tt) | Some client ↦ ends client ] in
+    go (slice_get s.world.clients (client_number s actor)) refl
+
+device_fine : (s : State) (w : WithinState s) (o : Option DeviceStep) → DeviceKeepsIf s (within_device s.core w.objects) o → StepFine path_room (option_map device_stepped o)
+device_fine s w None keeps = tt
+device_fine s w (Some done) keeps = (
+  record { objects = within_after s.core w.objects _ keeps.kept; inboxes = subst (λ (d : Driver). Inboxes d.connections) (sym keeps.driver) w.inboxes },
+  record { bytes = omega (arith, keeps.fits.bytes); handles = omega arith },
+  keeps.fits,
+)
 
 idle_small : (deadline : Option ℕ) → IsSmallAnswer (idle_answer deadline)
 idle_small None = record { bytes = omega arith; handles = omega arith }
@@ -137,18 +177,41 @@ idle_fits : (deadline : Option ℕ) → FitsIn no_room (idle_answer deadline)
 idle_fits None = record { bytes = omega arith; handles = omega arith }
 idle_fits (Some deadline) = record { bytes = omega arith; handles = omega arith }
 
-full_step_fine : (s : State) → WithinCore s.core → (ev : Event) → StepFine (room_of ev) (full_step s ev)
+idle_inboxes : (deadline : Option ℕ) (w : World) → InboxesOf w → InboxesOf (world_idle deadline w)
+unfolding world_idle
+idle_inboxes None w inboxes = inboxes
+idle_inboxes (Some deadline) w inboxes = inboxes
+
+idle_fine : (s : State) → WithinState s → (deadline : Option ℕ) → StepFine no_room (Some (idle_until deadline s))
+idle_fine s w deadline = (
+  record { objects = swept_within (core_idle deadline s.core) (idle_within s.core w.objects deadline); inboxes = idle_inboxes deadline s.world w.inboxes },
+  idle_small deadline,
+  idle_fits deadline,
+)
+
+full_step_fine : (s : State) → WithinState s → (ev : Event) → StepFine (room_of s ev) (full_step s ev)
 unfolding full_step
 full_step_fine s w (event.Begin actor start asked) =
-    in_world_fine (room_of_call asked) s.world (core_begin s.core actor.0 start asked) (begin_fine s.core w actor.0 start asked)
-full_step_fine s w (event.Resume actor start) = in_world_fine no_room s.world (core_resume s.core actor.0 start) (resume_fine s.core w actor.0 start)
-full_step_fine s w event.Device = tt
-full_step_fine s w event.Idle =
-    elim (idle_lawful s) as (λ b. StepFine no_room (cond b (Some (idle s)) None)) [
-      | true ↦ (swept_within (core_idle (least_deadline s.core) s.core) (idle_within s.core w (least_deadline s.core)), idle_small (least_deadline s.core), idle_fits (least_deadline s.core))
-      | false ↦ tt
+    let room : Room = room_of_call asked in
+    let thread : Option Outcome = core_begin s.core actor.0 start asked in
+    let client : Option Acted = client_begin s (client_number s actor.0) start asked in
+    elim (is_thread s actor.0) as (λ b. StepFine room (cond b (option_map (in_world s.world) thread) (option_map (beside_core s.core) client))) [
+      | true ↦ in_world_fine room s.world w.inboxes thread (begin_fine s.core w.objects actor.0 start asked)
+      | false ↦ beside_fine room s w client (begin_acts s (client_number s actor.0) start asked)
     ]
+full_step_fine s w (event.Resume actor start) =
+    let room : Room = cond (is_client s actor.0) full_room no_room in
+    let thread : Option Stepped = option_map (in_world s.world) (core_resume s.core actor.0 start) in
+    let client : Option Stepped = option_map (beside_core s.core) (client_resume s (client_number s actor.0) start) in
+    let P : Bool → Type 0 = λ b. is_thread s actor.0 ≡ b → StepFine room (cond b thread client) in
+    let go : (b : Bool) → P b = λ b. elim b as (λ v. P v) [
+      | true ↦ (λ is. roomier room thread (in_world_fine no_room s.world w.inboxes (core_resume s.core actor.0 start) (resume_fine s.core w.objects actor.0 start)))
+      | false ↦ (λ other. client_resume_fine s w actor.0 start other)
+    ] in
+    go (is_thread s actor.0) refl
+full_step_fine s w event.Device = device_fine s w (device_step s) (device_keeps s (within_device s.core w.objects))
+full_step_fine s w event.Idle = elim (idle_lawful s) as (λ b. StepFine no_room (cond b (Some (idle s)) None)) [ true ↦ idle_fine s w (next_deadline s) | false ↦ tt ]
 
-pub step_fine : (s : State) → WithinCore s.core → (ev : Event) → StepFine (room_of ev) (step s ev)
+pub step_fine : (s : State) → WithinState s → (ev : Event) → StepFine (room_of s ev) (step s ev)
 unfolding step
-step_fine s w ev = elim (is_built_event ev) as (λ b. StepFine (room_of ev) (cond b (full_step s ev) None)) [ true ↦ full_step_fine s w ev | false ↦ tt ]
+step_fine s w ev = elim (is_built_event ev) as (λ b. StepFine (room_of s ev) (cond b (full_step s ev) None)) [ true ↦ full_step_fine s w ev | false ↦ tt ]

@@ -11,7 +11,7 @@ ghost use Rattle.kernel_types.specs.Opening.{opening};
 ghost use Rattle.kernel_types.specs.Step.{Stepped, step};
 ghost use Rattle.kernel_types.specs.Limits.{IsWithinLimits, IsSmallAnswer, FitsIn, room_of};
 
-/// Every opening state is within the limits: it has no objects.
+/// Every opening state is within the limits: it has no objects and no connections.
 pub fn openings_are_within_limits()
     ensures { (scene : SceneValue) → IsWithinLimits (opening scene) }
 {}
@@ -33,8 +33,8 @@ pub fn answers_are_small()
     ensures { (scene : SceneValue) (entries : List Entry) → Legal (opening scene) entries → All (λ entry. IsSmallAnswer entry.answer) entries }
 {}
 
-/// Of the system calls only `read` and `mread` answer lists of bytes and handles. Every other answer of
-/// a step can be copied without memory.
+/// Of the calls only `read`, `mread` and `nrecv` answer lists of bytes and handles, the latter also at the end of its wait,
+/// and the device may tell a path. Every other answer of a step can be copied without memory.
 pub fn answers_fit_their_room()
-    ensures { (s : State) (e : Event) (r : Stepped) → IsWithinLimits s → step s e ≡ Some r → FitsIn (room_of e) r.answer }
+    ensures { (s : State) (e : Event) (r : Stepped) → IsWithinLimits s → step s e ≡ Some r → FitsIn (room_of s e) r.answer }
 {}

@@ -3,7 +3,7 @@
 ghost use Rattle.std.specs.Prelude.{◌≡◌, ◌≤◌, ◌+◌, [], length, slice_get, option_copied, Some, IfOk, IfErr, OnOk, IsOk};
 ghost use Rattle.std.specs.Option.{option_map};
 ghost use Rattle.kernel_types.specs.History.{Legal};
-ghost use Rattle.kernel_types.specs.Limits.{room_of};
+ghost use Rattle.kernel_types.specs.Limits.{resumes_client, room_of};
 ghost use Rattle.kernel_log.specs.Logs.{facts_along, state_of, made_by, Wrote, Kept};
 ghost use Rattle.kernel_log.specs.Spares.{Holds};
 
@@ -162,10 +162,20 @@ impl<K: IpcKernel + Drop> Logged<K> {
         ensures facts { self.new.journal.facts ≡ self.old.journal.facts }
         ensures room { self.old.journal.room ≤ self.new.journal.room }
         ensures place { OnOk result (1 ≤ self.new.journal.room) }
-        ensures spare { IfOk result (λ spare. Holds spare (room_of event.now)) }
+        ensures spare { IfOk result (λ spare. Holds spare (room_of (state_of self.old) event.now)) }
     {
         self.journal.reserve(1)?;
-        Spare::for_step(self.alloc, event)
+        Spare::for_step(self.alloc, event, self.resumes_client(event))
+    }
+
+    // Whether the wait of a client of the normal world ends.
+    fn resumes_client(&self, event: &Event) -> bool
+        ensures { result ≡ resumes_client (state_of self.now) event.now }
+    {
+        match event {
+            Event::Resume { actor, .. } => self.kernel.is_client(*actor),
+            _ => false,
+        }
     }
 }
 

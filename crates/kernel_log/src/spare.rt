@@ -1,7 +1,7 @@
 //! Room for the copy of an answer, taken before the step that answers.
 
-ghost use Rattle.std.specs.Prelude.{◌≡◌, ◌≤◌, [], length, vec_len, vec_capacity, IfOk, if◌then◌else◌};
-ghost use Rattle.kernel_types.specs.Limits.{FitsIn, full_room, no_room, room_of};
+ghost use Rattle.std.specs.Prelude.{◌≡◌, ◌≤◌, [], length, vec_len, vec_capacity, IfOk};
+ghost use Rattle.kernel_types.specs.Limits.{FitsIn, room_by, room_of_call};
 ghost use Rattle.kernel_log.specs.Spares.{Holds};
 
 use kernel_types::values::{Answer, Call, DeviceReply, Event, Items, NoMemory, Reply};
@@ -26,31 +26,35 @@ impl Model for Spare {
     ghost invariant = { λ s. (s.bytes.items ≡ []) × (vec_len s.bytes ≡ 0) × (s.handles.items ≡ []) × (vec_len s.handles ≡ 0) };
 }
 
-// Whether an answer of the event may list bytes and handles.
-fn is_reading(event: &Event) -> bool
-    ensures { room_of event.now ≡ (if result then full_room else no_room) }
+// How many bytes and how many handles the answer of a call may list.
+fn room_of_call(call: &Call) -> (usize, usize)
+    ensures { record { bytes = result.0; handles = result.1 } ≡ room_of_call call.now }
+{
+    match call {
+        Call::Read { .. } | Call::MemRead { .. } | Call::NsRecv { .. } => (65_536, 8),
+        _ => (0, 0),
+    }
+}
+
+// The same of the answer of an event; `of_client` says whether a client's wait ends.
+fn room_by(event: &Event, of_client: bool) -> (usize, usize)
+    ensures { record { bytes = result.0; handles = result.1 } ≡ room_by of_client event.now }
 {
     match event {
-        Event::Begin { call, .. } => match call {
-            Call::Read { .. } => true,
-            Call::MemRead { .. } => true,
-            _ => false,
-        },
-        _ => false,
+        Event::Begin { call, .. } => room_of_call(call),
+        Event::Resume { .. } if of_client => (65_536, 8),
+        Event::Device => (63, 0),
+        _ => (0, 0),
     }
 }
 
 impl Spare {
-    /// Room for the copy of any answer that the event's step may give: 65,536 bytes and 8 handles for
-    /// `read` and `mread`, none for any other.
-    pub fn for_step(alloc: Global, event: &Event) -> Result<Spare, NoMemory>
-        ensures { IfOk result (λ spare. Holds spare (room_of event.now)) }
+    /// Room for the copy of any answer that the event's step may give: 65,536 bytes and 8 handles for `read`, `mread` and
+    /// `nrecv`, and for the end of a client's wait; 63 bytes, a path, for a step of the device; none for any other.
+    pub fn for_step(alloc: Global, event: &Event, of_client: bool) -> Result<Spare, NoMemory>
+        ensures { IfOk result (λ spare. Holds spare (room_by of_client event.now)) }
     {
-        let (bytes, handles) = if is_reading(event) {
-            (65_536, 8)
-        } else {
-            (0, 0)
-        };
+        let (bytes, handles) = room_by(event, of_client);
         Ok(Spare {
             bytes: Vec::with_capacity(alloc, bytes)?,
             handles: Vec::with_capacity(alloc, handles)?,

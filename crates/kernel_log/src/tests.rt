@@ -116,7 +116,7 @@ fn a_story_is_of_one_end(rt: HostRuntime) -> Result<(), Fail> {
 #[derive(Drop)]
 struct Quiet;
 
-#[tactic(auto, unfolding(kernel_types::specs::Step::statuses, kernel_types::specs::Step::movable, kernel_types::specs::Waits::thread_movable, kernel_types::specs::Step::idle_lawful, kernel_types::specs::Step::device_has_work, kernel_types::specs::Facts::is_at_end, kernel_types::specs::Names::naming), using(crate::proofs::Quiets::nothing_moves, crate::proofs::Quiets::nobody))]
+#[tactic(auto, unfolding(kernel_types::specs::Step::statuses, kernel_types::specs::Step::idle_lawful, kernel_types::specs::Step::device_has_work, kernel_types::specs::Device::device_step, kernel_types::specs::Facts::is_at_end, kernel_types::specs::Names::naming), using(crate::proofs::Quiets::nothing_moves, crate::proofs::Quiets::nobody, crate::proofs::Quiets::nobody_moves))]
 impl IpcKernel for Quiet {
     ghost use Rattle.kernel_log.specs.Quiet.{quiet};
 

@@ -1,3 +1,4 @@
+pub mod Actors
 mod DeviceTakesFrames
 mod DriverReadsFrames
 mod FramesByteForByte

@@ -14,7 +14,7 @@ use Rattle.kernel_types.specs.Objects.{end_of, end_changed}
 use Rattle.kernel_types.specs.Events.{is_filled}
 use Rattle.kernel_types.specs.Ports.{admits}
 use Rattle.kernel_types.specs.Connects.{Way, to_port, to_start, to_nothing, way_of, pending_pair, waiting_client, started_unless_running, peer_of}
-use Rattle.kernel_types.specs.Messages.{peer_end, is_full_end, deliver, get_from, put_from, free_id}
+use Rattle.kernel_types.specs.Messages.{peer_end, is_full_end, deliver, get_message, put_from, free_id}
 use Rattle.kernel_types.specs.Outcome.{Outcome, no_seqs}
 use Rattle.kernel_types.specs.Sweep.{sweep}
 use Rattle.kernel_types.specs.declared.bridge.EndView.{EndView}
@@ -95,7 +95,7 @@ push_from c end bytes (Some from) =
 unfoldable pub ns_push : CoreState → ℕ → List ℕ → Change
 ns_push c end bytes = push_from c end bytes (end_of c.objects end)
 
--- the oldest filled message is opened as by `get`, and retired as by `put`
+-- the oldest filled message is opened as by `get`, and retired as by `put`; whether the end is Connected does not count
 
 abbrev pub put_after : CoreState → ℕ → ℕ → Outcome → Change
 put_after c end id got =
@@ -104,7 +104,7 @@ put_after c end id got =
 
 abbrev pub take_from : CoreState → ℕ → Option ChannelEnd → Change
 take_from c id None = only_core c
-take_from c id (Some end) = put_after c id (free_id end.messages) (get_from c id (Some end))
+take_from c id (Some end) = put_after c id (free_id end.messages) (get_message c id end (find is_filled end.messages))
 
 unfoldable pub ns_take : CoreState → ℕ → Change
 ns_take c end = take_from c end (end_of c.objects end)

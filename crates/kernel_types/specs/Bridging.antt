@@ -3,7 +3,6 @@ use Rattle.std.specs.Prelude.{◌≡◌, ◌≤◌, ◌<◌, ◌+◌, ◌^◌, �
 use Rattle.std.specs.List.{list_any}
 use Rattle.kernel_values.specs.declared.entry.EndSeq.{EndSeq}
 use Rattle.kernel_values.specs.declared.state.CoreState.{CoreState}
-use Rattle.kernel_values.specs.declared.state.EndState.TheVariants as end_state
 use Rattle.kernel_values.specs.declared.state.State.{State}
 use Rattle.kernel_types.specs.declared.bridge.NsRefused.{NsRefused}
 use Rattle.kernel_types.specs.declared.bridge.NsRefused.TheVariants as refused
@@ -24,7 +23,6 @@ CanTake end s = 0 < (ns_view s.core end).filled
 
 -- a message with these bytes can go to the peer
 pub record CanPush (end : ℕ) (bytes : List ℕ) (s : State) : Type 0 where
-  pub connected : (ns_view s.core end).state ≡ end_state.Connected
   pub small : length bytes ≤ (ns_view s.core end).size
   pub free : (ns_view s.core end).peer_full ≡ false
 

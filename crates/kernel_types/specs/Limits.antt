@@ -1,5 +1,5 @@
 -- How large the objects of a state are, and how much an answer holds.
-use Rattle.std.specs.Prelude.{◌≡◌, ◌≤◌, ℕ, true, length, if◌then◌else◌}
+use Rattle.std.specs.Prelude.{◌≡◌, ◌≤◌, ℕ, Bool, true, false, length, if◌then◌else◌}
 use Rattle.std.specs.List.{All}
 use Rattle.kernel_values.specs.declared.call.Call.{Call}
 use Rattle.kernel_values.specs.declared.call.Call.TheVariants as call
@@ -118,12 +118,20 @@ room_of_call (call.MemRead handle offset len) = full_room
 room_of_call (call.NsRecv conn timeout) = full_room
 room_of_call _ = no_room
 
+-- whether a client's wait ends
+abbrev pub resumes_client : State → Event → Bool
+resumes_client s (event.Resume actor start) = is_client s actor.0
+resumes_client s other = false
+
 -- the end of a thread's wait lists nothing; that of a client's may be a receive, and the device may tell a path
+abbrev pub room_by : Bool → Event → Room
+room_by of_client (event.Begin actor start asked) = room_of_call asked
+room_by of_client (event.Resume actor start) = (if of_client then full_room else no_room)
+room_by of_client event.Device = path_room
+room_by of_client event.Idle = no_room
+
 abbrev pub room_of : State → Event → Room
-room_of s (event.Begin actor start asked) = room_of_call asked
-room_of s (event.Resume actor start) = (if is_client s actor.0 then full_room else no_room)
-room_of s event.Device = path_room
-room_of s event.Idle = no_room
+room_of s e = room_by (resumes_client s e) e
 
 pub record FitsIn (room : Room) (answer : Answer) : Type 0 where
   pub bytes : bytes_of answer ≤ room.bytes

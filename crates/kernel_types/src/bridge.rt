@@ -1,7 +1,6 @@
 //! What the bridge to the normal world asks of a kernel.
 
 ghost use Rattle.std.specs.Prelude.{◌≡◌, ◌<◌, ℕ, [], Some, length, IfOk, IfErr, OnErr, IsTrue, IsFalse, ◌≤◌};
-ghost use Rattle.kernel_values.specs.declared.state.EndState.TheVariants as end_state;
 ghost use Rattle.kernel_types.specs.Bridge.{ns_view, ns_peek};
 ghost use Rattle.kernel_types.specs.Bridging.{IsBridged, CanTake, CanPush, IsLater, Idled, Connected, NotConnected, Pushed, Took, Dropped};
 ghost use Rattle.kernel_types.specs.CoreStep.{least_deadline};
@@ -58,8 +57,9 @@ pub trait Core: IpcKernel {
         requires { IsBridged end.0 (Self.state self.now) }
         ensures { result ≡ ns_view (Self.state self.now).core end.0 };
 
-    /// Sends a message without handles to the end's peer: the end is Connected, the bytes are within the slots' size, and the
-    /// peer has a free slot. Answers the peer and the message's number there. Refused, all stands as before.
+    /// Sends a message without handles to the peer of an end that is Connected: the bytes are within the slots' size, and the
+    /// peer has a free slot. Answers the peer and the message's number there. Refused, all stands as before; where the end
+    /// has no peer, want of memory is the answer.
     fn ns_push(&mut self, end: ObjId, bytes: &Bytes) -> Result<EndSeq, NoMemory>
         requires named { IsBridged end.0 (Self.state self.old) }
         requires room { CanPush end.0 bytes.now (Self.state self.old) }

@@ -1,3 +1,4 @@
+pub mod Clientless
 pub mod Descending
 pub mod Numbers
 pub mod Orders

@@ -4,9 +4,8 @@ use Rattle.kernel_values.specs.SceneLaw.{SceneValue}
 use Rattle.kernel_values.specs.declared.entry.Event.{Event}
 use Rattle.kernel_values.specs.declared.state.CoreState.{CoreState}
 use Rattle.kernel_values.specs.declared.state.State.{State}
-use Rattle.kernel_values.specs.declared.world.World.{World}
 use Rattle.kernel_types.specs.Limits.{FitsIn, room_of, IsWithinLimits}
-use Rattle.kernel_types.specs.Opening.{opening, opening_core, opening_world}
+use Rattle.kernel_types.specs.Opening.{opening, opening_core, without_clients}
 use Rattle.kernel_laws.proofs.Small.{opening_within, steps_fit, steps_within}
 use Rattle.set_laws.specs.Soundness.{IsSound}
 use Rattle.set_laws.proofs.Circles.{no_circle}
@@ -14,7 +13,7 @@ use Rattle.set_laws.proofs.Soundness.{openings_sound, steps_keep_sound}
 use Rattle.plain_kernel.specs.declared.kernel.Next.{Next}
 use Rattle.plain_kernel.specs.Orderly.{IsOrderly}
 use Rattle.plain_kernel.specs.Ready.{IsReady}
-use Rattle.plain_kernel.specs.Steps.{whole, stepped}
+use Rattle.plain_kernel.specs.Steps.{clientless, whole, stepped}
 
 orderly : (s : State) → IsWithinLimits s → IsSound s → IsOrderly s
 orderly s within sound = record {
@@ -26,15 +25,14 @@ orderly s within sound = record {
 opening_orderly : (scene : SceneValue) → IsOrderly (opening scene)
 opening_orderly scene = orderly (opening scene) (opening_within scene) (openings_sound scene)
 
-pub opened_orderly : (scene : SceneValue) (core : CoreState) (world : World) → core ≡ opening_core scene.apps → world ≡ opening_world scene
-    → IsOrderly (whole core world)
-unfolding opening
-opened_orderly scene core world core_is world_is = rw (core_is, world_is) (opening_orderly scene)
+pub opened_orderly : (scene : SceneValue) (core : CoreState) → core ≡ opening_core scene.apps → IsOrderly (whole core scene.queue)
+unfolding opening clientless
+opened_orderly scene core core_is = rw core_is (opening_orderly (without_clients scene))
 
-pub next_orderly : (event : Event) (s : State) (made : ℕ) (next : Next) → IsReady event s made next → IsOrderly s → IsOrderly (whole next.core s.world)
+pub next_orderly : (event : Event) (s : State) (made : ℕ) (next : Next) → IsReady event s made next → IsOrderly s → IsOrderly (record { core = next.core; world = s.world })
 next_orderly event s made next ready kept =
-    orderly (whole next.core s.world) (steps_within s event (stepped next.told next.core s.world) kept.within ready.step_is).0
+    orderly (record { core = next.core; world = s.world }) (steps_within s event (stepped next.told next.core s.world) kept.within ready.step_is).0
     (steps_keep_sound s event (stepped next.told next.core s.world) kept.sound ready.step_is)
 
-pub next_fits : (event : Event) (s : State) (made : ℕ) (next : Next) → IsReady event s made next → IsOrderly s → FitsIn (room_of event) next.told.answer
+pub next_fits : (event : Event) (s : State) (made : ℕ) (next : Next) → IsReady event s made next → IsOrderly s → FitsIn (room_of s event) next.told.answer
 next_fits event s made next ready kept = steps_fit s event (stepped next.told next.core s.world) kept.within ready.step_is

@@ -2,17 +2,15 @@
 
 ghost use Rattle.std.specs.Prelude.{◌≡◌, OnOk, ◌++◌, map, IfOk, sum_by, not};
 ghost use Rattle.kernel_types.specs.CoreStep.{status_of};
-ghost use Rattle.kernel_types.specs.Step.{statuses, has_begun_and_goes_on, is_running};
-ghost use Rattle.plain_kernel.specs.Steps.{whole};
+ghost use Rattle.kernel_types.specs.Step.{has_begun_and_goes_on, is_running};
+ghost use Rattle.plain_kernel.specs.Alone.{core_statuses};
 ghost use Rattle.plain_kernel.specs.Tests.{names_on};
 ghost use Rattle.kernel_types.specs.Names.{naming};
 ghost use Rattle.kernel_types.specs.Facts.{facts_of};
 ghost use Rattle.std.specs.List.{list_any, list_all};
 
 use crate::names::{Naming, count_names};
-use kernel_values::{
-    Activity, ActorStatus, ClientState, CoreState, EndFacts, Items, NoMemory, Object, Thread, World,
-};
+use kernel_values::{Activity, ActorStatus, CoreState, EndFacts, Items, NoMemory, Object, Thread};
 
 fn status_of(activity: Activity) -> ActorStatus
     ensures { result ≡ status_of activity }
@@ -34,23 +32,13 @@ fn add_threads(statuses: &mut Items<ActorStatus>, threads: &[Thread]) -> Result<
     Ok(())
 }
 
-fn add_clients(statuses: &mut Items<ActorStatus>, clients: &[ClientState]) -> Result<(), NoMemory>
-    ensures { OnOk result (statuses.new ≡ statuses.old ++ map (λ client. client.status) clients.now) }
-{
-    for client in clients {
-        statuses.push(client.status)?;
-    }
-    Ok(())
-}
-
-/// Every actor's status: the threads', then the clients'.
-#[tactic(auto, unfolding(kernel_types::specs::Step::statuses))]
-pub fn statuses_of(core: &CoreState, world: &World) -> Result<Items<ActorStatus>, NoMemory>
-    ensures { IfOk result (λ others. others ≡ statuses (whole core.now world.now)) }
+/// Every thread's status.
+#[tactic(auto, unfolding(crate::specs::Alone::core_statuses))]
+pub fn statuses_of(core: &CoreState) -> Result<Items<ActorStatus>, NoMemory>
+    ensures { IfOk result (λ others. others ≡ core_statuses core.now) }
 {
     let mut statuses = Items::new(core.apps.allocator());
     add_threads(&mut statuses, core.threads.as_slice())?;
-    add_clients(&mut statuses, world.clients.as_slice())?;
     Ok(statuses)
 }
 

@@ -3,9 +3,10 @@
 ghost use Rattle.std.specs.Prelude.{IfOk, ◌≡◌, IfErr};
 ghost use Rattle.kernel_types.specs.Names.{naming};
 ghost use Rattle.kernel_types.specs.Facts.{facts_of};
-ghost use Rattle.kernel_types.specs.Step.{statuses, idle_lawful, step};
-ghost use Rattle.plain_kernel.specs.Steps.{whole, stepped_if};
-ghost use Rattle.kernel_types.specs.Opening.{opening};
+ghost use Rattle.kernel_types.specs.Step.{idle_lawful, step};
+ghost use Rattle.plain_kernel.specs.Steps.{stepped_if};
+ghost use Rattle.plain_kernel.specs.Alone.{core_statuses, core_idle_lawful};
+ghost use Rattle.kernel_types.specs.Opening.{opening, without_clients};
 ghost use Rattle.kernel_types.specs.Kernel.{status_for, CauseHolds};
 ghost use Rattle.plain_kernel.specs.Ready.{IsReady};
 
@@ -13,14 +14,14 @@ use crate::events::events_of;
 use crate::facts::{any_goes_on, any_runs, facts_of, none_goes_on, statuses_of};
 use crate::names::{Naming, count_names, names_in};
 use crate::objects::is_object_there;
-use crate::opening::{opening_core, opening_world};
+use crate::opening::opening_core;
 use crate::step::run_event;
 use crate::told::Told;
 use crate::waits::{any_may_move, is_movable};
 use kernel_types::{IpcKernel, StepCause, StepRefused};
 use kernel_values::{
     ActorId, ActorStatus, Copied, CoreState, EndFacts, Entry, Event, Events, Items, NoMemory,
-    ObjId, Scene, World,
+    ObjId, Scene,
 };
 use std::alloc::Global;
 use std::marker::Model;
@@ -30,7 +31,7 @@ use std::marker::Model;
 #[derive(Debug, Drop)]
 pub struct PlainKernel {
     core: CoreState,
-    world: World,
+    queue: u32,
     names: Items<Naming>,
     facts: EndFacts,
     actors: Items<ActorStatus>,
@@ -44,13 +45,13 @@ impl Model for PlainKernel {
     ghost use Rattle.plain_kernel.specs.Steps.{whole};
     ghost use Rattle.kernel_types.specs.Names.{naming};
     ghost use Rattle.kernel_types.specs.Facts.{facts_of};
-    ghost use Rattle.kernel_types.specs.Step.{statuses};
+    ghost use Rattle.plain_kernel.specs.Alone.{core_statuses};
 
     ghost Value = { Standing };
 
-    ghost view = { λ k. record { state = whole k.core k.world; made = k.made } };
+    ghost view = { λ k. record { state = whole k.core k.queue; made = k.made } };
 
-    ghost invariant = { λ k. (k.names ≡ naming k.core) × (k.facts ≡ facts_of k.core) × (k.actors ≡ statuses (whole k.core k.world)) × IsOrderly (whole k.core k.world) };
+    ghost invariant = { λ k. (k.names ≡ naming k.core) × (k.facts ≡ facts_of k.core) × (k.actors ≡ core_statuses k.core) × IsOrderly (whole k.core k.queue) };
 }
 
 /// A state after a step, with what is told of it and of the step.
@@ -63,16 +64,16 @@ struct Next {
     told: Told,
 }
 
-fn ready(core: CoreState, world: &World, told: Told) -> Result<Next, NoMemory>
+fn ready(core: CoreState, told: Told) -> Result<Next, NoMemory>
     ensures core_is { IfOk result (λ next. next.core ≡ core) }
     ensures told_is { IfOk result (λ next. next.told ≡ told) }
     ensures names_are { IfOk result (λ next. next.names ≡ naming core) }
     ensures facts_are { IfOk result (λ next. next.facts ≡ facts_of core) }
-    ensures statuses_are { IfOk result (λ next. next.statuses ≡ statuses (whole core world.now)) }
+    ensures statuses_are { IfOk result (λ next. next.statuses ≡ core_statuses core) }
 {
     let names = names_in(&core)?;
     let facts = facts_of(&core, names.as_slice())?;
-    let statuses = statuses_of(&core, world)?;
+    let statuses = statuses_of(&core)?;
     Ok(Next {
         core,
         names,
@@ -83,20 +84,19 @@ fn ready(core: CoreState, world: &World, told: Told) -> Result<Next, NoMemory>
 }
 
 impl PlainKernel {
-    /// A kernel in the state in which the scene begins.
-    #[tactic(auto, unfolding(kernel_types::specs::Opening::opening))]
+    /// A kernel in the state in which the scene begins without its clients.
+    #[tactic(auto, unfolding(kernel_types::specs::Opening::opening, crate::specs::Steps::clientless))]
     pub fn new(alloc: Global, scene: &Scene) -> Result<PlainKernel, NoMemory>
-        ensures state_is { IfOk result (λ kernel. kernel.state ≡ opening scene.now) }
+        ensures state_is { IfOk result (λ kernel. kernel.state ≡ opening (without_clients scene.now)) }
         ensures made_is { IfOk result (λ kernel. kernel.made ≡ 0) }
     {
         let core = opening_core(alloc, scene.apps.as_slice())?;
-        let world = opening_world(alloc, scene.clients.as_slice())?;
         let names = names_in(&core)?;
         let facts = facts_of(&core, names.as_slice())?;
-        let statuses = statuses_of(&core, &world)?;
+        let statuses = statuses_of(&core)?;
         Ok(PlainKernel {
             core,
-            world,
+            queue: scene.queue,
             names,
             facts,
             actors: statuses,
@@ -104,15 +104,17 @@ impl PlainKernel {
         })
     }
 
-    #[tactic(auto, unfolding(kernel_types::specs::Step::idle_lawful, kernel_types::specs::Step::device_has_work))]
+    #[tactic(auto, using(crate::proofs::Clientless::idle_of_state), unfolding(crate::specs::Alone::core_idle_lawful))]
     fn is_idle(&self) -> bool
-        ensures { result ≡ idle_lawful self.now.state }
+        ensures core { result ≡ core_idle_lawful self.now.state.core }
+        ensures whole { result ≡ idle_lawful self.now.state }
     {
         any_goes_on(self.actors.as_slice())
             && !any_runs(self.actors.as_slice())
             && !any_may_move(&self.core)
     }
 
+    #[tactic(auto, using(crate::proofs::Clientless::alone_statuses))]
     fn status_for(&self, event: &Event) -> Option<ActorStatus>
         ensures { result ≡ status_for self.now.state event.now }
     {
@@ -127,13 +129,14 @@ impl PlainKernel {
         }
     }
 
+    #[tactic(auto, using(crate::proofs::Clientless::alone_step))]
     /// What the event tells in a copy of the state, with the copy.
     fn try_event(&self, event: &Event) -> Result<(CoreState, Option<Told>), NoMemory>
         ensures { IfOk result (λ (core, told). stepped_if told core self.now.state.world ≡ step self.now.state event.now) }
     {
         let is_idle = self.is_idle();
         let mut core = self.core.copied()?;
-        let told = run_event(&mut core, &self.world, event, is_idle)?;
+        let told = run_event(&mut core, event, is_idle)?;
         Ok((core, told))
     }
 
@@ -151,7 +154,7 @@ impl PlainKernel {
         if self.made == u32::MAX {
             return Err(StepCause::Full);
         }
-        match ready(core, &self.world, told) {
+        match ready(core, told) {
             Ok(next) => Ok(next),
             Err(_) => Err(StepCause::NoMemory),
         }
@@ -184,6 +187,7 @@ impl IpcKernel for PlainKernel {
         }
     }
 
+    #[tactic(auto, using(crate::proofs::Clientless::alone_statuses))]
     fn status(&self, actor: ActorId) -> ActorStatus {
         match self.actors.get(actor.0 as usize) {
             Some(status) => *status,
@@ -191,18 +195,20 @@ impl IpcKernel for PlainKernel {
         }
     }
 
-    #[tactic(auto, unfolding(kernel_types::specs::Step::movable))]
+    #[tactic(auto, using(crate::proofs::Clientless::alone_movable))]
     fn movable(&self, actor: ActorId) -> bool {
         is_movable(&self.core, actor.0)
     }
 
-    fn is_client(&self, actor: ActorId) -> bool {
-        let at = actor.0 as usize;
-        self.core.threads.len() <= at && at < self.actors.len()
+    #[tactic(auto, using(crate::proofs::Clientless::alone_client))]
+    fn is_client(&self, _actor: ActorId) -> bool {
+        let _queue = self.queue;
+        false
     }
 
-    #[tactic(auto, unfolding(kernel_types::specs::Step::device_has_work))]
+    #[tactic(auto, using(crate::proofs::Clientless::alone_device))]
     fn device_has_work(&self) -> bool {
+        let _queue = self.queue;
         false
     }
 
@@ -210,7 +216,7 @@ impl IpcKernel for PlainKernel {
         self.is_idle()
     }
 
-    #[tactic(auto, unfolding(kernel_types::specs::Facts::is_at_end, kernel_types::specs::Step::device_has_work))]
+    #[tactic(auto, using(crate::proofs::Clientless::alone_end))]
     fn whole(&self) -> bool {
         none_goes_on(self.actors.as_slice())
     }

@@ -4,11 +4,9 @@ ghost use Rattle.std.specs.Prelude.{IfOk, ◌≡◌, map, OnOk, ◌++◌};
 ghost use Rattle.kernel_types.specs.Opening.{opening_app, opening_activity, opening_core};
 ghost use Rattle.plain_kernel.specs.Tests.{place_threads};
 ghost use Rattle.std.specs.List.{flat_map, enumerate_from};
-ghost use Rattle.kernel_values.specs.declared.entry.ActorStatus.TheVariants as status;
 
 use kernel_values::{
-    Activity, ActorStatus, App, Application, Client, ClientState, Copied, CoreState, Items,
-    Manifest, NoMemory, Thread, World,
+    Activity, App, Application, Copied, CoreState, Items, Manifest, NoMemory, Thread,
 };
 use std::alloc::Global;
 
@@ -87,26 +85,5 @@ pub fn opening_core(alloc: Global, apps: &[App]) -> Result<CoreState, NoMemory>
         next: 0,
         clock: 0,
         bridged: Items::new(alloc),
-    })
-}
-
-fn opening_clients(alloc: Global, clients: &[Client]) -> Result<Items<ClientState>, NoMemory>
-    ensures { IfOk result (λ others. others ≡ map (λ client. record { status = status.Running 1 }) clients.now) }
-{
-    let mut others = Items::new(alloc);
-    for _client in clients {
-        others.push(ClientState {
-            status: ActorStatus::Running { start: 1 },
-        })?;
-    }
-    Ok(others)
-}
-
-/// The normal world: every client runs from the beginning.
-pub fn opening_world(alloc: Global, clients: &[Client]) -> Result<World, NoMemory>
-    ensures { IfOk result (λ world. world ≡ record { clients = map (λ client. record { status = status.Running 1 }) clients.now }) }
-{
-    Ok(World {
-        clients: opening_clients(alloc, clients)?,
     })
 }

@@ -4,9 +4,9 @@ ghost use Rattle.std.specs.Prelude.{◌≡◌, IfOk, map, OnOk};
 ghost use Rattle.kernel_types.specs.Built.{is_built};
 ghost use Rattle.plain_kernel.specs.Shown.{outcome_if, outcome};
 ghost use Rattle.kernel_types.specs.CoreStep.{act, core_begin, core_resume, deadline_in, sooner, least_deadline_of, least_deadline, cancelled_activity, core_idle, idle_answer};
-ghost use Rattle.kernel_types.specs.Step.{idle_lawful, step};
 ghost use Rattle.kernel_types.specs.Threads.{activity_changed};
-ghost use Rattle.plain_kernel.specs.Steps.{idle_outcome, whole, stepped_if};
+ghost use Rattle.plain_kernel.specs.Steps.{idle_outcome};
+ghost use Rattle.plain_kernel.specs.Alone.{core_step, core_idle_lawful};
 
 use crate::accepts::accept_call;
 use crate::applications::{exit_call, finish_call};
@@ -22,9 +22,7 @@ use crate::threads::run_again;
 use crate::told::Told;
 use crate::wait_calls::{wait_any_call, wait_call};
 use crate::waits::end_wait;
-use kernel_values::{
-    Activity, Answer, Call, CoreState, Event, Items, NoMemory, Seqs, Thread, World,
-};
+use kernel_values::{Activity, Answer, Call, CoreState, Event, Items, NoMemory, Seqs, Thread};
 use std::alloc::Global;
 
 /// Whether the call has a body: those of the normal world have none yet.
@@ -268,15 +266,14 @@ fn idle(core: &mut CoreState) -> Result<Told, NoMemory>
 }
 
 /// The step of an event, where it is lawful; `is_idle` says whether Idle is.
-#[tactic(auto, unfolding(kernel_types::specs::Step::step, kernel_types::specs::Step::full_step))]
+#[tactic(auto, unfolding(crate::specs::Alone::core_step))]
 pub fn run_event(
     core: &mut CoreState,
-    world: &World,
     event: &Event,
     is_idle: bool,
 ) -> Result<Option<Told>, NoMemory>
-    requires { is_idle ≡ idle_lawful (whole core.old world.now) }
-    ensures { IfOk result (λ told. stepped_if told core.new world.now ≡ step (whole core.old world.now) event.now) }
+    requires { is_idle ≡ core_idle_lawful core.old }
+    ensures { IfOk result (λ told. outcome_if told core.new ≡ core_step core.old event.now) }
 {
     match event {
         Event::Begin { actor, start, call } => {

@@ -133,7 +133,7 @@ module _ (names : List (List ℕ)) (plain : AllByRecursion IsWord names) (apart 
     begins_same j i one k h two p q t u same =
         let off = names_off j k (call_words one ++ codes "->" ∷ more) (call_words two ++ codes "->" ∷ others) (begin_below j i one p) (begin_below k h two q) same in
         let calls : one ≡ two = call_same one two t u more others a b off.1 in
-        let starts : i ≡ h = start_same s.core k i h (subst (λ n. IsActive s.core n i) off.0 (begins s j i one p.0 p.1)) (begins s k h two q.0 q.1) in
+        let starts : i ≡ h = start_same s k i h (subst (λ n. IsActive s n i) off.0 (begins s j i one p.0 p.1)) (begins s k h two q.0 q.1) in
         λ x. event.Begin (record { 0 = off.0 x }) (starts x) (calls x)
 
     resumes_same : (j i k h : ℕ) → Lawful (event.Resume (record { 0 = j }) i) → Lawful (event.Resume (record { 0 = k }) h)
@@ -141,7 +141,7 @@ module _ (names : List (List ℕ)) (plain : AllByRecursion IsWord names) (apart 
         → event.Resume (record { 0 = j }) i ≡ event.Resume (record { 0 = k }) h
     resumes_same j i k h p q same =
         let off = names_off j k (codes "resume" ∷ codes "->" ∷ more) (codes "resume" ∷ codes "->" ∷ others) (resume_below j i p) (resume_below k h q) same in
-        let starts : i ≡ h = start_same s.core k i h (subst (λ n. IsActive s.core n i) off.0 (resumes s j i p.0 p.1)) (resumes s k h q.0 q.1) in
+        let starts : i ≡ h = start_same s k i h (subst (λ n. IsActive s n i) off.0 (resumes s j i p.0 p.1)) (resumes s k h q.0 q.1) in
         λ x. event.Resume (record { 0 = off.0 x }) (starts x)
 
     device_idle : told (codes "device" ∷ codes "->" ∷ more) a ≡ told (codes "idle" ∷ codes "->" ∷ others) b → ⊥

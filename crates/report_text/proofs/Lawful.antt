@@ -1,4 +1,4 @@
--- A lawful event's actor is a thread of the scene, in the start and the activity that the event tells.
+-- A lawful event's actor is one of the scene, in the start that the event tells.
 use Rattle.std.proofs.Common.{◌≡◌, ◌<◌, ℕ, zero, suc, ◌+◌, Bool, true, false, cond, List, [], ◌∷◌, length, map, Option, Some, None, refl, sym, ap, ◌∙◌, arith, length-append}
 use Rattle.std.proofs.lemmas.List.{length-map}
 use Rattle.std.proofs.lemmas.Option.{slice_get_within}
@@ -14,63 +14,29 @@ use Rattle.kernel_values.specs.declared.entry.Event.TheVariants as event
 use Rattle.kernel_values.specs.declared.scene.App.{App}
 use Rattle.kernel_values.specs.declared.scene.Client.{Client}
 use Rattle.kernel_values.specs.declared.script.Command.{Command}
-use Rattle.kernel_values.specs.declared.state.Activity.{Activity}
-use Rattle.kernel_values.specs.declared.state.Activity.TheVariants as activity
 use Rattle.kernel_values.specs.declared.world.ClientState.{ClientState}
-use Rattle.kernel_values.specs.declared.state.CoreState.{CoreState}
 use Rattle.kernel_values.specs.declared.state.State.{State}
 use Rattle.kernel_values.specs.declared.state.Thread.{Thread}
+use Rattle.kernel_values.specs.declared.entry.ActorStatus.{ActorStatus}
 use Rattle.kernel_values.specs.declared.entry.ActorStatus.TheVariants as status
 use Rattle.kernel_types.specs.History.{step_entry, entry_of, next_state, state_or}
-use Rattle.kernel_types.specs.Opening.{opening, opening_threads, opening_activity}
-use Rattle.kernel_types.specs.Outcome.{Outcome}
-use Rattle.kernel_types.specs.CoreStep.{core_begin, begin_of, begin_as, core_resume, resume_of, resume_as, act, swept, resumed}
-use Rattle.kernel_types.specs.Step.{Stepped, step, full_step, is_built_event}
-use Rattle.kernel_types.specs.Waits.{end_of_wait}
+use Rattle.kernel_types.specs.Opening.{opening, opening_threads, opening_activity, opening_client}
+use Rattle.kernel_types.specs.Facts.{status_at}
+use Rattle.kernel_types.specs.Step.{Stepped, step, full_step, is_built_event, statuses}
+use Rattle.kernel_types.proofs.Actors.{begin_is_of_running, resume_is_of_waiting}
 use Rattle.kernel_laws.specs.Actors.{HasSameActors, kinds}
-use Rattle.kernel_laws.proofs.SameActors.{steps_keep}
+use Rattle.kernel_laws.proofs.SameActors.{one_status_each, steps_keep}
 use Rattle.report_text.specs.Names.{actor_names, thread_names, thread_name}
 
--- the start by which a thread runs or waits
-abbrev start_in : Activity → Option ℕ
-start_in (activity.Running start) = Some start
-start_in (activity.Waiting start wait) = Some start
+-- the start by which an actor runs or waits
+abbrev start_in : Option ActorStatus → Option ℕ
+start_in (Some (status.Running start)) = Some start
+start_in (Some (status.Waiting start)) = Some start
 start_in other = None
 
--- the actor is a thread that runs or waits, by this start
-pub record IsActive (c : CoreState) (actor start : ℕ) : Type 0 where
-  pub thread : Thread
-  pub thread_is : slice_get c.threads actor ≡ Some thread
-  pub start_is : start_in thread.activity ≡ Some start
-
-same_number : (a b : ℕ) (t : Bool) → (a == b) ≡ t → t ≡ true → a ≡ b
-same_number a b t is holds = grind (arith, nat_tests)
-
-by_start : (one other : ℕ) (o : Option Outcome) (x : Outcome) (t : Bool) → (one == other) ≡ t → cond t o None ≡ Some x → one ≡ other
-by_start one other o x true is h = same_number one other true is refl
-by_start one other o x false is h = absurd (cc)
-
-begin_active : (c : CoreState) (k start : ℕ) (asked : Call) (app : ℕ) (a : Activity) (x : Outcome) → begin_as c k start asked app a ≡ Some x → start_in a ≡ Some start
-begin_active c k start asked app (activity.Running running) x h =
-    ap (λ n. Some n) (by_start running start (option_map swept (act c k app asked)) x (running == start) refl h)
-begin_active c k start asked app activity.Off x h = absurd (cc)
-begin_active c k start asked app (activity.Waiting waiting wait) x h = absurd (cc)
-begin_active c k start asked app (activity.Ended ended) x h = absurd (cc)
-
-begun_active : (c : CoreState) (k start : ℕ) (asked : Call) (o : Option Thread) (x : Outcome) → slice_get c.threads k ≡ o → begin_of c k start asked o ≡ Some x → IsActive c k start
-begun_active c k start asked None x o_is h = absurd (cc)
-begun_active c k start asked (Some thread) x o_is h = record { thread = thread; thread_is = o_is; start_is = begin_active c k start asked thread.app thread.activity x h }
-
-resume_active : (c : CoreState) (k start app : ℕ) (a : Activity) (x : Outcome) → resume_as c k start app a ≡ Some x → start_in a ≡ Some start
-resume_active c k start app (activity.Waiting waiting wait) x h =
-    ap (λ n. Some n) (by_start waiting start (option_map (resumed k) (end_of_wait c app wait)) x (waiting == start) refl h)
-resume_active c k start app activity.Off x h = absurd (cc)
-resume_active c k start app (activity.Running running) x h = absurd (cc)
-resume_active c k start app (activity.Ended ended) x h = absurd (cc)
-
-resumed_active : (c : CoreState) (k start : ℕ) (o : Option Thread) (x : Outcome) → slice_get c.threads k ≡ o → resume_of c k start o ≡ Some x → IsActive c k start
-resumed_active c k start None x o_is h = absurd (cc)
-resumed_active c k start (Some thread) x o_is h = record { thread = thread; thread_is = o_is; start_is = resume_active c k start thread.app thread.activity x h }
+-- the actor runs or waits, by this start
+pub record IsActive (s : State) (actor start : ℕ) : Type 0 where
+  pub start_is : start_in (status_at s actor) ≡ Some start
 
 mapped : {X Y : Type 0} (f : X → Y) (o : Option X) (y : Y) → option_map f o ≡ Some y → (x : X) × (o ≡ Some x)
 mapped f None y h = absurd (cc)
@@ -85,43 +51,35 @@ unfolding step
 stepped s e entry h =
     let found : (r : Stepped) × (step s e ≡ Some r) = mapped (entry_of e) (step s e) entry h in (found.0, built (is_built_event e) (full_step s e) found.0 found.1)
 
-pub begins : (s : State) (actor start : ℕ) (asked : Call) (entry : Entry) → step_entry s (event.Begin (record { 0 = actor }) start asked) ≡ Some entry → IsActive s.core actor start
-unfolding full_step core_begin
+pub begins : (s : State) (actor start : ℕ) (asked : Call) (entry : Entry) → step_entry s (event.Begin (record { 0 = actor }) start asked) ≡ Some entry → IsActive s actor start
+unfolding full_step
 begins s actor start asked entry h =
     let found : (r : Stepped) × (full_step s (event.Begin (record { 0 = actor }) start asked) ≡ Some r) = stepped s (event.Begin (record { 0 = actor }) start asked) entry h in
-    let outcome : (x : Outcome) × (core_begin s.core actor start asked ≡ Some x) = mapped _ (core_begin s.core actor start asked) found.0 found.1 in
-    begun_active s.core actor start asked (slice_get s.core.threads actor) outcome.0 refl outcome.1
+    record { start_is = ap start_in (begin_is_of_running s actor start asked found.0 found.1) }
 
-pub resumes : (s : State) (actor start : ℕ) (entry : Entry) → step_entry s (event.Resume (record { 0 = actor }) start) ≡ Some entry → IsActive s.core actor start
-unfolding full_step core_resume
+pub resumes : (s : State) (actor start : ℕ) (entry : Entry) → step_entry s (event.Resume (record { 0 = actor }) start) ≡ Some entry → IsActive s actor start
+unfolding full_step
 resumes s actor start entry h =
     let found : (r : Stepped) × (full_step s (event.Resume (record { 0 = actor }) start) ≡ Some r) = stepped s (event.Resume (record { 0 = actor }) start) entry h in
-    let outcome : (x : Outcome) × (core_resume s.core actor start ≡ Some x) = mapped _ (core_resume s.core actor start) found.0 found.1 in
-    resumed_active s.core actor start (slice_get s.core.threads actor) outcome.0 refl outcome.1
+    record { start_is = ap start_in (resume_is_of_waiting s actor start found.0 found.1) }
 
 -- an actor is in one start at a time
-pub start_same : (c : CoreState) (actor one other : ℕ) → IsActive c actor one → IsActive c actor other → one ≡ other
-start_same c actor one other p q =
-    let same : p.thread ≡ q.thread = (let a : slice_get c.threads actor ≡ Some p.thread = p.thread_is in let b : slice_get c.threads actor ≡ Some q.thread = q.thread_is in cc) in
-    let starts : Some one ≡ Some other = sym p.start_is ∙ ap (λ (t : Thread). start_in t.activity) same ∙ q.start_is in cc
+pub start_same : (s : State) (actor one other : ℕ) → IsActive s actor one → IsActive s actor other → one ≡ other
+start_same s actor one other p q = let starts : Some one ≡ Some other = sym p.start_is ∙ q.start_is in cc
 
 -- How many actors there are.
 
 pub IsOfScene : ℕ → State → Type 0
 IsOfScene count s = length (kinds s) ≡ count
 
-pub actor_below : (count : ℕ) (s : State) (actor start : ℕ) → IsOfScene count s → IsActive s.core actor start → actor < count
+started_within : (statuses : List ActorStatus) (actor start : ℕ) (o : Option ActorStatus) → slice_get statuses actor ≡ o → start_in o ≡ Some start → actor < length statuses
+started_within statuses actor start None o_is is = absurd (cc)
+started_within statuses actor start (Some status) o_is is = slice_get_within statuses actor status o_is
+
+pub actor_below : (count : ℕ) (s : State) (actor start : ℕ) → IsOfScene count s → IsActive s actor start → actor < count
 unfolding IsOfScene
 actor_below count s actor start of active =
-    let k : Thread → Option ℕ = λ thread. Some thread.app in
-    let n : ClientState → Option ℕ = λ client. None in
-    omega (
-      arith,
-      of,
-      slice_get_within s.core.threads actor active.thread active.thread_is,
-      length-append (map k s.core.threads) (map n s.world.clients),
-      length-map s.core.threads k,
-    )
+    omega (arith, of, one_status_each s, started_within (statuses s) actor start (status_at s actor) refl active.start_is)
 
 next_of_scene : (count : ℕ) (s : State) (o : Option Stepped) → ((r : Stepped) → o ≡ Some r → HasSameActors s r.state) → IsOfScene count s → IsOfScene count (state_or s o)
 unfolding IsOfScene
@@ -154,7 +112,6 @@ unfolding IsOfScene opening actor_names
 opening_of_scene scene =
     let k : Thread → Option ℕ = λ thread. Some thread.app in
     let n : ClientState → Option ℕ = λ client. None in
-    let begins : Client → ClientState = λ client. record { status = status.Running 1 } in
     let name : Client → List ℕ = λ client. client.name in
     omega (
       arith,
@@ -162,7 +119,7 @@ opening_of_scene scene =
       length-append (map k (opening scene).core.threads) (map n (opening scene).world.clients),
       length-map (opening scene).core.threads k,
       length-map (opening scene).world.clients n,
-      length-map scene.clients begins,
+      length-map scene.clients opening_client,
       length-append (flat_map thread_names scene.apps) (map name scene.clients),
       length-map scene.clients name,
     )

@@ -1,7 +1,7 @@
 -- The next turn of the serial order, by two walks over the actors; and that without one the run is whole.
 use Rattle.std.proofs.Common.{◌≡◌, ℕ, zero, suc, ◌+◌, ◌-◌, ◌<◌, ◌≤◌, Bool, true, false, cond, List, [], ◌∷◌, ◌++◌, length, map, Option, Some, None, refl, ap, sym, ◌∙◌, subst, arith, append-nil, zero-add, inl, inr}
 use Rattle.std.proofs.lemmas.Bool.{cases_lt}
-use Rattle.std.specs.Prelude.{slice_get, not, ◌&&◌}
+use Rattle.std.specs.Prelude.{slice_get, not, ◌&&◌, ◌||◌}
 use Rattle.std.specs.List.{find, filter, range_with_len, list_any, list_all}
 use Rattle.std.specs.Option.{option_or}
 use Rattle.std.proofs.lemmas.Option.{slice_get_within}
@@ -13,14 +13,18 @@ use Rattle.kernel_values.specs.declared.entry.ActorStatus.TheVariants as status
 use Rattle.kernel_values.specs.declared.scene.Turn.TheVariants as turn
 use Rattle.kernel_values.specs.declared.state.Activity.{Activity}
 use Rattle.kernel_values.specs.declared.state.Activity.TheVariants as activity
+use Rattle.kernel_values.specs.declared.world.ClientActivity.{ClientActivity}
+use Rattle.kernel_values.specs.declared.world.ClientActivity.TheVariants as client_activity
 use Rattle.kernel_values.specs.declared.world.ClientState.{ClientState}
 use Rattle.kernel_values.specs.declared.state.State.{State}
 use Rattle.kernel_values.specs.declared.state.Thread.{Thread}
+use Rattle.kernel_types.specs.Clients.{client_may_move}
 use Rattle.kernel_types.specs.Facts.{status_at, is_at_end}
 use Rattle.kernel_types.specs.CoreStep.{status_of}
-use Rattle.kernel_types.specs.Step.{statuses, has_begun_and_goes_on, is_running, device_has_work, movable, idle_lawful}
+use Rattle.kernel_types.specs.Step.{statuses, has_begun_and_goes_on, is_running, device_has_work, any_may_move, client_may_move_if, client_movable, client_status, movable, idle_lawful}
 use Rattle.kernel_types.specs.Turns.{takes_turn, is_later, actors_in_turn, kernel_turn, turn_or_kernel, next_turn}
 use Rattle.kernel_types.specs.Waits.{thread_may_move, activity_may_move, thread_movable, may_move}
+use Rattle.kernel_types.proofs.Actors.{client_moves, status_of_client, status_of_thread, thread_is_thread, thread_moves}
 use Rattle.runners.specs.Runs.{first_after, IsBelow}
 use Rattle.runners.proofs.Numbers.{range_split, filter_all, filter_none, passed_all}
 
@@ -180,29 +184,42 @@ none_runs s never = any_none is_running (statuses s) (λ k x is. not_running s k
 
 -- nobody may move
 
-get_mapped : (threads : List Thread) (clients : List ClientState) (k : ℕ) (thread : Thread) → slice_get threads k ≡ Some thread
-    → slice_get (map (λ t. status_of t.activity) threads ++ map (λ client. client.status) clients) k ≡ Some (status_of thread.activity)
-get_mapped [] clients k thread is = absurd (cc)
-get_mapped (first ∷ threads) clients zero thread is = let same : first ≡ thread = cc in ap (λ (t : Thread). Some (status_of t.activity)) same
-get_mapped (first ∷ threads) clients (suc k) thread is = get_mapped threads clients k thread is
-
-thread_status : (s : State) (k : ℕ) (thread : Thread) → slice_get s.core.threads k ≡ Some thread → status_at s k ≡ Some (status_of thread.activity)
-unfolding statuses
-thread_status s k thread is = get_mapped s.core.threads s.world.clients k thread is
-
 activity_stays : (s : State) (k : ℕ) (thread : Thread) (a : Activity) → thread.activity ≡ a → slice_get s.core.threads k ≡ Some thread → status_at s k ≡ Some (status_of a)
     → takes_turn s k ≡ false → activity_may_move s.core thread.app a ≡ false
-unfolding movable thread_movable
+unfolding thread_movable
 activity_stays s k thread activity.Off a_is is status_is never = refl
 activity_stays s k thread (activity.Running start) a_is is status_is never = refl
 activity_stays s k thread (activity.Waiting start wait) a_is is status_is never =
-    let stays : may_move s.core (Some thread) ≡ false = sym (ap (λ (t : Option Thread). may_move s.core t) is) ∙ (rw status_is at never) in
+    let never_moves : movable s k ≡ false = rw status_is at never in
+    let stays : may_move s.core (Some thread) ≡ false =
+    sym (ap (λ (t : Option Thread). may_move s.core t) is) ∙ (sym (thread_moves s k (thread_is_thread s k thread is)) ∙ never_moves) in
     ap (λ (b : Activity). activity_may_move s.core thread.app b) (sym a_is) ∙ stays
 activity_stays s k thread (activity.Ended start) a_is is status_is never = refl
 
-none_moves : (s : State) → ((k : ℕ) → k < length (statuses s) → takes_turn s k ≡ false) → list_any (thread_may_move s.core) s.core.threads ≡ false
-none_moves s never = any_none (thread_may_move s.core) s.core.threads (λ k thread is.
-    activity_stays s k thread thread.activity refl is (thread_status s k thread is) (never k (within (statuses s) k (status_of thread.activity) (thread_status s k thread is))))
+client_stays : (s : State) (k : ℕ) (client : ClientState) (a : ClientActivity) → client.activity ≡ a → slice_get s.world.clients k ≡ Some client
+    → status_at s (length s.core.threads + k) ≡ Some (client_status a) → takes_turn s (length s.core.threads + k) ≡ false → client_may_move s.core.clock s.world a ≡ false
+unfolding client_movable
+client_stays s k client (client_activity.Running start) a_is is status_is never = refl
+client_stays s k client (client_activity.Waiting start wait) a_is is status_is never =
+    let never_moves : movable s (length s.core.threads + k) ≡ false = rw status_is at never in
+    let stays : client_may_move_if s (Some client) ≡ false =
+    sym (ap (λ (c : Option ClientState). client_may_move_if s c) is) ∙ (sym (client_moves s k) ∙ never_moves) in
+    ap (λ (b : ClientActivity). client_may_move s.core.clock s.world b) (sym a_is) ∙ stays
+client_stays s k client (client_activity.Ended start) a_is is status_is never = refl
+
+neither : (one other : Bool) → one ≡ false → other ≡ false → (one || other) ≡ false
+neither one other p q = rw (p, q) refl
+
+none_moves : (s : State) → ((k : ℕ) → k < length (statuses s) → takes_turn s k ≡ false) → any_may_move s ≡ false
+none_moves s never =
+    let n : ℕ = length s.core.threads in
+    neither (list_any (thread_may_move s.core) s.core.threads) (list_any (λ (client : ClientState). client_may_move s.core.clock s.world client.activity) s.world.clients)
+    (any_none (thread_may_move s.core) s.core.threads (λ k thread is.
+    let status_is : status_at s k ≡ Some (status_of thread.activity) = status_of_thread s k thread is in
+    activity_stays s k thread thread.activity refl is status_is (never k (within (statuses s) k (status_of thread.activity) status_is))))
+    (any_none (λ (client : ClientState). client_may_move s.core.clock s.world client.activity) s.world.clients (λ k client is.
+    let status_is : status_at s (n + k) ≡ Some (client_status client.activity) = status_of_client s k client is in
+    client_stays s k client client.activity refl is status_is (never (n + k) (within (statuses s) (n + k) (client_status client.activity) status_is))))
 
 -- so the run is whole: else Idle would be lawful
 
@@ -219,10 +236,10 @@ idle_is goes false true device p q = absurd (cc)
 idle_is true false false device p q = refl
 idle_is false false false device p q = refl
 
-idle_where : (s : State) → list_any is_running (statuses s) ≡ false → list_any (thread_may_move s.core) s.core.threads ≡ false
+idle_where : (s : State) → list_any is_running (statuses s) ≡ false → any_may_move s ≡ false
     → idle_lawful s ≡ list_any has_begun_and_goes_on (statuses s) && not (device_has_work s)
 unfolding idle_lawful
-idle_where s p q = idle_is (list_any has_begun_and_goes_on (statuses s)) (list_any is_running (statuses s)) (list_any (thread_may_move s.core) s.core.threads) (device_has_work s) p q
+idle_where s p q = idle_is (list_any has_begun_and_goes_on (statuses s)) (list_any is_running (statuses s)) (any_may_move s) (device_has_work s) p q
 
 pub whole_at_end : (s : State) (last : Option ℕ) → first_after last ≤ length (statuses s) → next_turn s last ≡ None → is_at_end s ≡ true
 unfolding is_at_end

@@ -15,7 +15,7 @@ use std::test::Fail;
 #[derive(Drop)]
 struct Quiet;
 
-#[tactic(auto, unfolding(kernel_types::specs::Step::statuses, kernel_types::specs::Step::movable, kernel_types::specs::Waits::thread_movable, kernel_types::specs::Step::idle_lawful, kernel_types::specs::Step::device_has_work, kernel_types::specs::Facts::is_at_end, kernel_types::specs::Names::naming), using(kernel_log::proofs::Quiets::nothing_moves, kernel_log::proofs::Quiets::nobody))]
+#[tactic(auto, unfolding(kernel_types::specs::Step::statuses, kernel_types::specs::Step::idle_lawful, kernel_types::specs::Step::device_has_work, kernel_types::specs::Device::device_step, kernel_types::specs::Facts::is_at_end, kernel_types::specs::Names::naming), using(kernel_log::proofs::Quiets::nothing_moves, kernel_log::proofs::Quiets::nobody, kernel_log::proofs::Quiets::nobody_moves))]
 impl IpcKernel for Quiet {
     ghost use Rattle.kernel_log.specs.Quiet.{quiet};
 
@@ -81,7 +81,7 @@ fn empty_scene(alloc: Global, turns: &[Turn]) -> Result<Scene, NoMemory>
     Ok(Scene {
         apps: Items::new(alloc),
         clients: Items::new(alloc),
-        queue: 1,
+        queue: 16,
         turns: Items::from_slice(alloc, turns)?,
     })
 }

@@ -13,8 +13,7 @@ use Rattle.kernel_values.specs.declared.state.State.{State}
 use Rattle.kernel_values.specs.declared.state.TableEntry.{TableEntry}
 use Rattle.kernel_types.specs.Applications.{application_ended, started}
 use Rattle.kernel_types.specs.Events.{chain_limit}
-use Rattle.kernel_types.specs.Messages.{with_message, with_opened, without_opened}
-use Rattle.kernel_types.specs.Objects.{as_set, memory_of, on_end, set_of}
+use Rattle.kernel_types.specs.Objects.{as_set, memory_of, set_of}
 use Rattle.kernel_types.specs.Outcome.{Outcome, refuses}
 use Rattle.kernel_types.specs.Sets.{chain_through, is_label_in, is_or_contains, member_limit, new_member, set_add, set_add_entries, set_add_member, set_add_to}
 use Rattle.kernel_types.specs.CoreStep.{core_idle}
@@ -23,13 +22,11 @@ use Rattle.kernel_types.specs.Tables.{entry_at, table_of}
 use Rattle.kernel_laws.proofs.Found.{found}
 use Rattle.kernel_laws.proofs.Starts.{same_ended, same_idle, same_started}
 use Rattle.set_laws.specs.Chains.{HasMember, HasShortChains, NamesGivenNumbers}
+use Rattle.set_laws.proofs.BridgeSteps.{IfStepped}
 use Rattle.set_laws.proofs.Adding.{adding_keeps_short, membership_before}
-use Rattle.set_laws.proofs.Shrinking.{Deep, Shrunk, calm_end, deep_added, deep_by, deep_new_set, deep_published, same_set, shrunk_changed, shrunk_filtered, shrunk_mapped}
+use Rattle.set_laws.proofs.Shrinking.{Deep, Shrunk, deep_added, deep_by, deep_new_set, deep_published, same_set, shrunk_changed, shrunk_filtered, shrunk_mapped}
 use Rattle.set_laws.proofs.Lessening.{shrunk_last}
-use Rattle.set_laws.proofs.Walk.{Kept, StepKeeps, step_keeps}
-
-abbrev Nothing : Type 0
-Nothing = Unit {0}
+use Rattle.set_laws.proofs.Walk.{Kept, step_keeps}
 
 abbrev Given : CoreState → Type 0
 Given c = (a b : ℕ) → HasMember c.objects a b → b < c.next
@@ -67,32 +64,27 @@ same_deep : (c d : CoreState) → (d.objects ≡ c.objects) × (d.next ≡ c.nex
 same_deep c d same deep =
     deep_by c d (omega (arith, same.1)) (λ a. subst (λ os. Shrunk (as_set (found os a)) (as_set (found c.objects a))) (sym same.0) (same_set (as_set (found c.objects a)))) deep
 
-deepening : Kept Nothing
+deepening : Kept
 deepening = record {
-  holds = λ x c. Deep c;
-  moved = λ x seqs. x;
-  still = λ x c k. k;
-  changed_one = λ x c k f less id. deep_by c _ (omega arith) (shrunk_changed f less c.objects id) k;
-  changed_all = λ x c k h keeps less. deep_by c _ (omega arith) (shrunk_mapped h keeps less c.objects) k;
-  fewer = λ x c k p. deep_by c _ (omega arith) (shrunk_filtered p c.objects) k;
-  one_more = λ x c k b none. deep_added c b none k;
-  new_set = λ x c k. deep_new_set c k;
-  adding = λ x c k names app set handle mask cookie. record { short = adding_keeps_short c app set handle mask cookie k.short; given = adding_given c k.given names app set handle mask cookie };
-  put_last = λ x c k m id set is has. deep_by c _ (omega arith) (shrunk_last m set has c.objects id is) k;
-  published_port = λ x c k port. deep_published c port k;
-  sent = λ x c k bytes parts id end is. deep_by c _ (omega arith) (shrunk_changed (on_end (with_message bytes parts)) (calm_end (with_message bytes parts)) c.objects id) k;
-  opened = λ x c k number message id end is first. deep_by c _ (omega arith) (shrunk_changed (on_end (with_opened number)) (calm_end (with_opened number)) c.objects id) k;
-  retired = λ x c k number message id end is first. deep_by c _ (omega arith) (shrunk_changed (on_end (without_opened number)) (calm_end (without_opened number)) c.objects id) k;
-  tabled = λ x c k change app. record { short = k.short; given = k.given };
-  reported = λ x c k app handle. record { short = k.short; given = k.given };
-  acted = λ x c k change thread. record { short = k.short; given = k.given };
-  begun = λ x c k app. same_deep c (started app c) (same_started app c) k;
-  over = λ x c k app. same_deep c (application_ended app c) (same_ended app c) k;
-  idled = λ x c k deadline. same_deep c (core_idle deadline c) (same_idle c deadline) k;
+  holds = Deep;
+  changed_one = λ c k f less id. deep_by c _ (omega arith) (shrunk_changed f less c.objects id) k;
+  changed_all = λ c k h keeps less. deep_by c _ (omega arith) (shrunk_mapped h keeps less c.objects) k;
+  fewer = λ c k p. deep_by c _ (omega arith) (shrunk_filtered p c.objects) k;
+  one_more = λ c k b none. deep_added c b none k;
+  new_set = λ c k. deep_new_set c k;
+  adding = λ c k names app set handle mask cookie. record { short = adding_keeps_short c app set handle mask cookie k.short; given = adding_given c k.given names app set handle mask cookie };
+  put_last = λ c k m id set is has. deep_by c _ (omega arith) (shrunk_last m set has c.objects id is) k;
+  published_port = λ c k port. deep_published c port k;
+  tabled = λ c k change app. record { short = k.short; given = k.given };
+  reported = λ c k app handle. record { short = k.short; given = k.given };
+  acted = λ c k change thread. record { short = k.short; given = k.given };
+  begun = λ c k app. same_deep c (started app c) (same_started app c) k;
+  over = λ c k app. same_deep c (application_ended app c) (same_ended app c) k;
+  idled = λ c k deadline. same_deep c (core_idle deadline c) (same_idle c deadline) k;
+  bridges = λ c k ends. record { short = k.short; given = k.given };
 }
 
-stepped_short : (o : Option Stepped) (r : Stepped) → o ≡ Some r → StepKeeps Nothing deepening tt o → HasShortChains r.state.core.objects
-unfolding deepening
+stepped_short : (o : Option Stepped) (r : Stepped) → o ≡ Some r → IfStepped Deep o → HasShortChains r.state.core.objects
 stepped_short None r is k = absurd (cc)
 stepped_short (Some stepped) r is k =
     let same : stepped ≡ r = cc in
@@ -101,4 +93,4 @@ stepped_short (Some stepped) r is k =
 pub steps_keep_short : (s : State) (e : Event) (r : Stepped) → NamesGivenNumbers s.core → HasShortChains s.core.objects → step s e ≡ Some r → HasShortChains r.state.core.objects
 unfolding deepening
 steps_keep_short s e r names short is =
-    stepped_short (step s e) r is (step_keeps Nothing deepening tt s (record { short = short; given = names.members }) names e)
+    stepped_short (step s e) r is (step_keeps deepening s (record { short = short; given = names.members }) names e)

@@ -8,6 +8,7 @@ pub mod Circles
 pub mod Looking
 pub mod Lists
 pub mod Naming
+pub mod BridgeSteps
 pub mod NamingCalls
 pub mod NamingWaits
 pub mod NamingConnections

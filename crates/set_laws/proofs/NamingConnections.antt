@@ -109,11 +109,11 @@ connected_names c made k below thread app flags =
     names_if (is_asynchronous flags) (gives (reply.Handle handle) there) (waits_on thread (wait_on.Connect c.next handle) None there)
     (given (reply.Handle handle) there more) (waiting there more thread (wait_on.Connect c.next handle) None (below, tt))
 
-client_named : (c : CoreState) → Given c → (client : Connector) (path : List ℕ) → Given (waiting_client client path c)
+pub client_named : (c : CoreState) → Given c → (client : Connector) (path : List ℕ) → Given (waiting_client client path c)
 client_named c k client path =
     added_named (c.next + 1) c (raised c.next c k (c.next + 1) (omega arith)) (body.End (new_end None end_state.Waiting (Some path) (Some client) 0 0)) tt
 
-pair_named : (c : CoreState) → Given c → (client : Connector) (id : ℕ) (port : Port) → Given (pending_pair client id port c)
+pub pair_named : (c : CoreState) → Given c → (client : Connector) (id : ℕ) (port : Port) → Given (pending_pair client id port c)
 pair_named c k client id port =
     let n : ℕ = c.next + 1 + 1 in
     let one : Body = body.End (new_end (Some (c.next + 1)) end_state.Connecting None (Some client) port.bufs port.size) in

@@ -1,33 +1,35 @@
 -- Every step: what is named has a number that was given.
-use Rattle.std.proofs.Common.{◌<◌, ℕ, ◌==◌, true, false, cond, List, Option, Some, None}
+use Rattle.std.proofs.Common.{◌<◌, ℕ, ◌+◌, ◌==◌, true, false, cond, not, List, [], ◌∷◌, Option, Some, None, arith}
 use Rattle.std.specs.Prelude.{slice_get}
 use Rattle.std.specs.List.{filter}
 use Rattle.std.specs.Option.{option_map}
 use Rattle.kernel_values.specs.declared.call.Call.{Call}
 use Rattle.kernel_values.specs.declared.call.Call.TheVariants as call
 use Rattle.kernel_values.specs.declared.entry.Event.{Event}
-use Rattle.kernel_values.specs.declared.entry.Event.TheVariants as event
 use Rattle.kernel_values.specs.declared.state.Activity.{Activity}
 use Rattle.kernel_values.specs.declared.state.Activity.TheVariants as activity
+use Rattle.kernel_values.specs.declared.state.Connector.TheVariants as connector
 use Rattle.kernel_values.specs.declared.state.CoreState.{CoreState}
 use Rattle.kernel_values.specs.declared.state.Port.{Port}
 use Rattle.kernel_values.specs.declared.state.State.{State}
 use Rattle.kernel_values.specs.declared.state.Thread.{Thread}
-use Rattle.kernel_values.specs.declared.world.World.{World}
+use Rattle.kernel_types.specs.Bridge.{bridging, unbridged}
+use Rattle.kernel_types.specs.Connects.{pending_pair, waiting_client}
 use Rattle.kernel_types.specs.Names.{activity_names}
 use Rattle.kernel_types.specs.Objects.{end_of, on_body, on_end, on_port, with_objects}
 use Rattle.kernel_types.specs.Outcome.{Outcome}
 use Rattle.kernel_types.specs.Reach.{is_in}
-use Rattle.kernel_types.specs.CoreStep.{act, begin_as, begin_of, cancelled_activity, core_begin, core_idle, core_resume, least_deadline, resume_as, resume_of, resumed, swept}
-use Rattle.kernel_types.specs.Step.{Stepped, full_step, idle, idle_lawful, in_world, is_built_event, step}
+use Rattle.kernel_types.specs.CoreStep.{act, begin_as, begin_of, cancelled_activity, core_begin, core_idle, core_resume, resume_as, resume_of, resumed, swept}
+use Rattle.kernel_types.specs.Step.{step}
 use Rattle.kernel_types.specs.Sweep.{cut_end, has_marked_peer, kept, pruned, pruned_port, reached, sweep}
 use Rattle.kernel_types.specs.Threads.{activity_changed, running_activity, with_activity}
 use Rattle.kernel_types.specs.Waits.{end_of_wait}
-use Rattle.set_laws.proofs.Lists.{all_filtered, all_mapped}
+use Rattle.set_laws.proofs.BridgeSteps.{BridgeKeeps, IfCome, IfStepped, every_step_keeps}
+use Rattle.set_laws.proofs.Lists.{all_appended, all_filtered, all_mapped}
 use Rattle.set_laws.proofs.Naming.{Named, NamesBelow, acted, changed_all, fewer, on_end_below, on_port_below}
-use Rattle.set_laws.proofs.NamingCalls.{Given, add_names, close_names, cookie_names, del_names, dup_names, get_names, memref_names, mod_names, mread_names, mwrite_names, put_names, read_names, send_names, set_names}
-use Rattle.set_laws.proofs.NamingConnections.{NamesIf, accept_names, connect_names, end_of_wait_names, port_names}
-use Rattle.set_laws.proofs.NamingWaits.{exit_names, finish_names, wait_any_names, wait_names}
+use Rattle.set_laws.proofs.NamingCalls.{Given, add_names, close_names, cookie_names, del_names, dup_names, end_kept, get_names, memref_names, mod_names, mread_names, mwrite_names, put_names, read_names, send_names, set_names}
+use Rattle.set_laws.proofs.NamingConnections.{NamesIf, accept_names, client_named, connect_names, end_of_wait_names, pair_named, port_names}
+use Rattle.set_laws.proofs.NamingWaits.{exit_names, finish_names, started_next, wait_any_names, wait_names}
 
 swept_named : (c : CoreState) → Given c → Given (sweep c)
 unfolding sweep pruned kept
@@ -136,23 +138,43 @@ idled_next c k None = record {
 }
 idled_next c k (Some deadline) = record { tables = k.tables; bridged = k.bridged; waits = k.waits; objects = k.objects }
 
-abbrev pub StepNames : Option Stepped → Type 0
-StepNames None = Unit {0}
-StepNames (Some stepped) = Given stepped.state.core
+come_given : (o : Option Outcome) → NamesIf o → IfCome Given o
+come_given None names = tt
+come_given (Some outcome) names = names.given
 
-in_world_names : (world : World) (o : Option Outcome) → NamesIf o → StepNames (option_map (in_world world) o)
-in_world_names world None names = tt
-in_world_names world (Some outcome) names = names.given
+-- What the bridge does.
 
-full_step_names : (s : State) → Given s.core → (ev : Event) → StepNames (full_step s ev)
-unfolding full_step
-full_step_names s k (event.Begin actor start asked) = in_world_names s.world (core_begin s.core actor.0 start asked) (begin_names s.core k actor.0 start asked)
-full_step_names s k (event.Resume actor start) = in_world_names s.world (core_resume s.core actor.0 start) (resume_names s.core k actor.0 start)
-full_step_names s k event.Device = tt
-full_step_names s k event.Idle =
-    let idled : CoreState = core_idle (least_deadline s.core) s.core in
-    elim (idle_lawful s) as (λ b. StepNames (cond b (Some (idle s)) None)) [ true ↦ swept_named idled (idled_next s.core k (least_deadline s.core)) | false ↦ tt ]
+bridging_named : (n : ℕ) (c : CoreState) → Named n c → (end : ℕ) → end < n → Named n (bridging end c)
+bridging_named n c k end below = record {
+  tables = k.tables;
+  bridged = all_appended (λ (x : ℕ). x < n) c.bridged (end ∷ []) k.bridged (below, tt);
+  waits = k.waits;
+  objects = k.objects;
+}
 
-pub step_names : (s : State) → Given s.core → (ev : Event) → StepNames (step s ev)
-unfolding step
-step_names s k ev = elim (is_built_event ev) as (λ b. StepNames (cond b (full_step s ev) None)) [ true ↦ full_step_names s k ev | false ↦ tt ]
+unbridged_named : (c : CoreState) → Given c → (end : ℕ) → Given (unbridged end c)
+unbridged_named c k end = record {
+  tables = k.tables;
+  bridged = all_filtered (λ (x : ℕ). x < c.next) (λ other. not (other == end)) c.bridged k.bridged;
+  waits = k.waits;
+  objects = k.objects;
+}
+
+bridge_names : BridgeKeeps Given
+bridge_names = record {
+  sweeps = λ c k. swept_named c k;
+  pairs = λ c k id port.
+      bridging_named (c.next + 1 + 1) (pending_pair connector.NormalWorld id port c) (pair_named c k connector.NormalWorld id port) c.next (omega arith);
+  clients = λ c k path.
+      bridging_named (c.next + 1) (waiting_client connector.NormalWorld path c) (client_named c k connector.NormalWorld path) c.next (omega arith);
+  starts = λ c k place. started_next place c k;
+  ends = λ c k change names id. end_kept c.next c k change (names c.next) id;
+  unbridges = λ c k end. unbridged_named c k end;
+}
+
+pub step_names : (s : State) → Given s.core → (ev : Event) → IfStepped Given (step s ev)
+step_names s k ev =
+    every_step_keeps Given bridge_names s k
+    (λ thread start asked. come_given (core_begin s.core thread start asked) (begin_names s.core k thread start asked))
+    (λ thread start. come_given (core_resume s.core thread start) (resume_names s.core k thread start))
+    (λ deadline. idled_next s.core k deadline) ev

@@ -35,7 +35,8 @@ use Rattle.set_laws.proofs.Deepening.{steps_keep_short}
 use Rattle.set_laws.proofs.Lists.{IfThere, all_appended, all_first, all_flat, all_last, all_mapped, all_unflat, all_unmapped, all_weaker}
 use Rattle.set_laws.proofs.Naming.{BodyBelow, MembersBelow, NamesBelow, TableBelow, set_named, table_named}
 use Rattle.set_laws.proofs.NamingCalls.{Given}
-use Rattle.set_laws.proofs.NamingSteps.{StepNames, step_names}
+use Rattle.set_laws.proofs.BridgeSteps.{IfStepped}
+use Rattle.set_laws.proofs.NamingSteps.{step_names}
 
 -- The entries that name objects, as one list and by where they stand.
 
@@ -145,7 +146,7 @@ openings_sound scene = record { rising = opening_rises scene; given = openings_g
 
 -- Steps.
 
-stepped_given : (o : Option Stepped) (r : Stepped) → o ≡ Some r → StepNames o → Given r.state.core
+stepped_given : (o : Option Stepped) (r : Stepped) → o ≡ Some r → IfStepped Given o → Given r.state.core
 stepped_given None r is names = absurd (cc)
 stepped_given (Some stepped) r is names =
     let same : stepped ≡ r = cc in

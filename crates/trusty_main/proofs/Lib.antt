@@ -1,3 +1,4 @@
+pub mod Alone
 pub mod Commanding
 pub mod Headline
 pub mod Reporting

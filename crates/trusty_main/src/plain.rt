@@ -1,6 +1,6 @@
 //! The commands that take no threads: from the words and the input to what is written and the status.
 
-ghost use Rattle.std.specs.Prelude.{◌≡◌, ◌≢◌, ◌≤◌, ◌⊎◌, Some, None, Ok, map, length, string_bytes, IfSome};
+ghost use Rattle.std.specs.Prelude.{◌≡◌, ◌≢◌, ◌≤◌, ◌⊎◌, [], Some, None, Ok, map, length, string_bytes, IfSome};
 ghost use Rattle.std.specs.Io.KnownBytes.{Appends, Keeps, IsAtEnd};
 ghost use Rattle.outside_io.specs.Faults.{Rose};
 ghost use Rattle.outside_io.specs.Reading.{TakesMore};
@@ -21,7 +21,7 @@ use outside_io::{INPUT_LIMIT, ReadRefused, Sink, Source, read_all};
 use plain_kernel::PlainKernel;
 use report_text::Form;
 use runners::{ReplayRefused, RunRefused, replay, serial};
-use scene_laws::turns_take_bytes;
+use scene_laws::{scenes_have_no_clients, turns_take_bytes};
 use scene_reader::{SceneRefused, read_scene};
 use std::alloc::Global;
 
@@ -86,6 +86,7 @@ fn answer<K: Sink>(alloc: Global, plan: Plan, input: &[u8], sink: &mut K) -> Sta
     match read_scene(alloc, input) {
         Ok(scene) => {
             turns_take_bytes();
+            scenes_have_no_clients();
             run(alloc, plan, &scene, sink)
         }
         Err(SceneRefused::Fault(fault)) => tell_fault(alloc, &fault, sink),
@@ -93,8 +94,10 @@ fn answer<K: Sink>(alloc: Global, plan: Plan, input: &[u8], sink: &mut K) -> Sta
     }
 }
 
+#[tactic(auto, using(crate::proofs::Alone::alone_opening))]
 fn run<K: Sink>(alloc: Global, plan: Plan, scene: &Scene, sink: &mut K) -> Status
-    requires { length scene.now.turns ≤ history_limit }
+    requires turns { length scene.now.turns ≤ history_limit }
+    requires alone { scene.now.clients ≡ [] }
     ensures tells { Tells (due_of_scene plan (Ok scene.now)) (K.written sink.old) (K.written sink.new) (K.faults sink.old) (K.faults sink.new) result }
     ensures done { result ≡ Status.Done → IsWholeRun plan.order scene.now }
     ensures endless { result ≡ Status.RunTooLong → IsEndless plan.order scene.now }
