@@ -5,6 +5,7 @@ pub mod Changes
 pub mod DriverWrites
 pub mod Dues
 pub mod Giving
+pub mod Histories
 pub mod Honest
 pub mod Incoming
 pub mod Lengths

@@ -88,6 +88,9 @@ range_below at (suc n) =
     next : (at n : ℕ) → at + 1 + n ≡ at + suc n
     next at n = omega arith
 
+range_within : (n : ℕ) → AllOf (λ place. place < n) (range_with_len 0 n)
+range_within n = let same : 0 + n ≡ n = omega arith in subst (λ b. AllOf (λ place. place < b) (range_with_len 0 n)) same (range_below 0 n)
+
 none_before : (p at n : ℕ) → p < at → times p (range_with_len at n) ≡ 0
 none_before p at zero lt = refl
 none_before p at (suc n) lt =
@@ -113,7 +116,7 @@ unfolding opening_memory
 all_ready size is =
     all_given size blank_memory 0 [] (range_with_len 0 (buffer_count size)) is
     (record { long = blank_long; available_is = index_of 0 blank_memory ∙ blank_number 2 (available_idx_start 0); buffers = tt })
-    (range_below 0 (buffer_count size)) (λ p. once_each p 0 (buffer_count size)) (omega (arith, length-range_with_len 0 (buffer_count size)))
+    (range_within (buffer_count size)) (λ p. omega (arith, once_each p 0 (buffer_count size))) (omega (arith, length-range_with_len 0 (buffer_count size)))
 
 first_out : (size : ℕ) → IsRingSize size → Outgoing size blank_memory (ring 1 size) 0 (range_with_len 0 (buffer_count size)) []
 first_out size is = record {
@@ -125,7 +128,7 @@ first_out size is = record {
   used_is = blank_number 2 (used_idx_start 1);
   flying = tt;
   coming = tt;
-  lowest = range_below 0 (buffer_count size);
+  lowest = range_within (buffer_count size);
   distinct = λ p. omega (arith, once_each p 0 (buffer_count size));
   count = omega (arith, length-range_with_len 0 (buffer_count size));
 }
