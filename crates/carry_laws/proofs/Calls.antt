@@ -1,5 +1,5 @@
 -- What the calls of clients send, and that nothing else of what is on its way changes.
-use Rattle.std.proofs.Common.{◌≡◌, ℕ, ◌+◌, ◌%◌, ◌<◌, ◌≤◌, Bool, true, false, not, cond, ltb, List, [], ◌∷◌, ◌++◌, Option, Some, None, length, map, min, refl, sym, ap, subst, ◌∙◌, arith}
+use Rattle.std.proofs.Common.{◌≡◌, ℕ, ◌%◌, ◌<◌, ◌≤◌, Bool, true, false, not, cond, ltb, List, [], ◌∷◌, ◌++◌, Option, Some, None, length, min, refl, sym, ap, subst, ◌∙◌, arith}
 use Rattle.std.proofs.lemmas.Bool.{ltb-false}
 use Rattle.std.proofs.lemmas.List.{append-nil, map_push}
 use Rattle.virtqueue.specs.Layout.{available_idx}
@@ -11,7 +11,6 @@ use Rattle.kernel_values.specs.declared.errno.Errno.{Errno}
 use Rattle.kernel_values.specs.declared.errno.Errno.TheVariants as errno
 use Rattle.kernel_values.specs.declared.reply.Reply.{Reply}
 use Rattle.kernel_values.specs.declared.reply.Reply.TheVariants as reply
-use Rattle.kernel_values.specs.declared.world.ClientActivity.{ClientActivity}
 use Rattle.kernel_values.specs.declared.world.ClientState.{ClientState}
 use Rattle.kernel_values.specs.declared.world.ClientWait.{ClientWait}
 use Rattle.kernel_values.specs.declared.world.ClientWaitOn.{ClientWaitOn}
@@ -21,15 +20,15 @@ use Rattle.kernel_values.specs.declared.world.ConnectionStatus.{ConnectionStatus
 use Rattle.kernel_values.specs.declared.world.ConnectionStatus.TheVariants as connection_status
 use Rattle.kernel_values.specs.declared.world.World.{World}
 use Rattle.kernel_types.specs.Carried.{one_if, is_honest_call}
-use Rattle.kernel_types.specs.Clients.{Acted, ns_gives, ns_refuses, ns_waits, with_client, send_by, send_frame, sent_in, with_sent, next_address, asks, asked_connection, with_connection, ns_connect_call, own_connection, send_limit, counts, send_established, send_by_status, send_on, ns_send_call, connect_answer_of, connect_answer, is_closed, receive_from, receive_answer, answer_of_wait, receive_or_wait, receive_on, ns_recv_call, shuts, close_by_status, close_on, ns_close_call, ns_act, drains, end_by_answer, end_of_ns_wait, inbox_changed, is_asked, client_ended}
-use Rattle.kernel_types.specs.Drains.{with_driver, drained, drained_frames, connection_of}
+use Rattle.kernel_types.specs.Clients.{Acted, ns_gives, ns_refuses, ns_waits, with_client, send_by, send_frame, sent_in, next_address, asks, ns_connect_call, own_connection, send_limit, counts, send_established, send_by_status, send_on, ns_send_call, connect_answer_of, connect_answer, is_closed, receive_from, receive_answer, answer_of_wait, receive_or_wait, receive_on, ns_recv_call, shuts, close_by_status, close_on, ns_close_call, ns_act, drains, end_by_answer, end_of_ns_wait, inbox_changed, is_asked, client_ended}
+use Rattle.kernel_types.specs.Drains.{with_driver, drained, connection_of}
 use Rattle.kernel_types.specs.GuestMemory.{buffer_count, buffer_size, with_frame}
 use Rattle.kernel_types.specs.Errors.{error_of}
 use Rattle.kernel_types.specs.Sending.{frame, request_frame, leave_frame}
 use Rattle.kernel_types.specs.Waits.{deadline_of, is_zero_timeout, is_due}
-use Rattle.carry_laws.proofs.Carrying.{Carrying, frames_of, drained_carries}
+use Rattle.carry_laws.proofs.Carrying.{Carrying, drained_carries}
 use Rattle.carry_laws.proofs.DriverWrites.{Framed, framed}
-use Rattle.carry_laws.proofs.Incoming.{Incoming, incoming_kept}
+use Rattle.carry_laws.proofs.Incoming.{incoming_kept}
 use Rattle.carry_laws.proofs.Lengths.{frame_long, request_short, leave_short}
 use Rattle.carry_laws.proofs.Outgoing.{Flight, Outgoing, sends}
 use Rattle.carry_laws.proofs.Rings.{IsRingSize, SameQueue}

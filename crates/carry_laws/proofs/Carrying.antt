@@ -1,18 +1,11 @@
 -- The normal world, with what is on its way in either direction.
-use Rattle.std.proofs.Common.{◌≡◌, ℕ, ◌+◌, ◌<◌, ◌≤◌, Bool, true, false, cond, List, [], ◌∷◌, ◌++◌, Option, Some, None, length, map, refl, sym, ap, subst, ◌∙◌, arith}
-use Rattle.std.specs.List.{filter, fold}
-use Rattle.std.proofs.lemmas.List.{append-nil, map_push}
-use Rattle.kernel_values.specs.declared.errno.Errno.{Errno}
-use Rattle.kernel_values.specs.declared.world.Connection.{Connection}
+use Rattle.std.proofs.Common.{◌≡◌, ℕ, false, List, [], ◌++◌, map, refl, sym, ap, subst, ◌∙◌}
+use Rattle.std.specs.List.{fold}
 use Rattle.kernel_values.specs.declared.world.World.{World}
-use Rattle.kernel_types.specs.Carried.{one_if}
-use Rattle.kernel_types.specs.Clients.{Acted, ns_refuses, send_by, send_frame, sent_in, with_sent}
-use Rattle.kernel_types.specs.Drains.{is_readable, frame_at, readable_elements, drained_frames, to_normal_drained, from_normal_drained, drained, freed_places, delivered, with_free}
-use Rattle.kernel_types.specs.GuestMemory.{UsedElement, ring, used_idx, new_elements, buffer_count, buffer_size, with_frame, given}
-use Rattle.carry_laws.proofs.Changes.{IsLong}
-use Rattle.carry_laws.proofs.DriverWrites.{Framed, framed}
-use Rattle.carry_laws.proofs.Incoming.{Incoming, Drained, drains, element_of, incoming_kept, read_are}
-use Rattle.carry_laws.proofs.Outgoing.{Flight, Outgoing, outgoing_kept, places_of, sends}
+use Rattle.kernel_types.specs.Drains.{frame_at, readable_elements, drained_frames, to_normal_drained, from_normal_drained, drained}
+use Rattle.kernel_types.specs.GuestMemory.{UsedElement, used_idx, given}
+use Rattle.carry_laws.proofs.Incoming.{Incoming, Drained, drains, element_of, read_are}
+use Rattle.carry_laws.proofs.Outgoing.{Flight, Outgoing, outgoing_kept, places_of}
 use Rattle.carry_laws.proofs.Rings.{IsRingSize, SameQueue}
 use Rattle.carry_laws.proofs.Taking.{sees}
 
@@ -43,18 +36,20 @@ to_normal_carries w sent gave c =
     let memory : List ℕ = fold (given size) w.memory (map (λ (element : UsedElement). element.id) (readable_elements w)) in
     let same : fold (given size) w.memory (map (λ (element : UsedElement). element.id) (map element_of c.back)) ≡ memory =
     ap (λ es. fold (given size) w.memory (map (λ (element : UsedElement). element.id) es)) (sym read) in
-    let other : SameQueue 1 w.memory memory = subst (λ m. SameQueue 1 w.memory m) same d.other_queue in
-    (ap (map (frame_at w.memory)) read ∙ d.frames ∙ c.gave_are, record {
-      out = c.out;
-      back = [];
-      ready = c.ready ++ places_of c.back;
-      sized = c.sized;
-      unbroken = c.unbroken;
-      going = outgoing_kept size w.memory memory w.device.from_normal w.driver.seen_from_normal w.driver.free c.out c.sized other c.going;
-      coming = subst (λ m. Incoming size m w.device.to_normal (used_idx w.memory 0) (c.ready ++ places_of c.back) []) same d.left;
-      sent_are = c.sent_are;
-      gave_are = refl;
-    })
+    let other : SameQueue 1 w.memory memory = subst (λ m. SameQueue 1 w.memory m) same d.other_queue in (
+      ap (map (frame_at w.memory)) read ∙ d.frames ∙ c.gave_are,
+      record {
+        out = c.out;
+        back = [];
+        ready = c.ready ++ places_of c.back;
+        sized = c.sized;
+        unbroken = c.unbroken;
+        going = outgoing_kept size w.memory memory w.device.from_normal w.driver.seen_from_normal w.driver.free c.out c.sized other c.going;
+        coming = subst (λ m. Incoming size m w.device.to_normal (used_idx w.memory 0) (c.ready ++ places_of c.back) []) same d.left;
+        sent_are = c.sent_are;
+        gave_are = refl;
+      },
+    )
 
 from_normal_carries : (w : World) (sent gave : List (List ℕ)) → Carrying w sent gave → Carrying (from_normal_drained w) sent gave
 unfolding from_normal_drained

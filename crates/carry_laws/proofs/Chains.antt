@@ -1,15 +1,12 @@
 -- A chain of one descriptor, as the device finds it, reads it and writes to it.
-use Rattle.std.proofs.Common.{◌≡◌, ◌≢◌, ℕ, ◌+◌, ◌^◌, ◌==◌, ◌<◌, ◌≤◌, Bool, true, false, not, cond, eqb, ltb, leb, List, [], ◌∷◌, ◌++◌, length, take, drop, Option, Some, None, Result, Ok, Err, refl, sym, ap, ◌∙◌, arith}
-use Rattle.std.specs.Prelude.{bit_and}
+use Rattle.std.proofs.Common.{◌≡◌, ◌≢◌, ℕ, ◌+◌, ◌<◌, ◌≤◌, true, false, eqb, ltb, leb, List, [], ◌∷◌, ◌++◌, length, take, drop, Some, None, Ok, refl, ap, ◌∙◌, arith}
 use Rattle.std.proofs.lemmas.List.{take_all}
-use Rattle.std.proofs.lemmas.Bool.{eq-eqb, le-leb, lt-ltb}
-use Rattle.virtqueue.specs.declared.chain.Chain.{Chain}
+use Rattle.std.proofs.lemmas.Bool.{eq-eqb, le-leb}
 use Rattle.virtqueue.specs.declared.parts.Part.{Part}
 use Rattle.virtqueue.specs.declared.queue.Queue.{Queue}
-use Rattle.virtqueue.specs.declared.queue.RingFault.{RingFault}
 use Rattle.virtqueue.specs.declared.walk.Descriptor.{Descriptor}
 use Rattle.virtqueue.specs.Bytes.{room, bytes_at, stored}
-use Rattle.virtqueue.specs.Chains.{descriptor_at, has_next, is_directed, is_inside, broken, chain, chain_of, part_of, parts_from}
+use Rattle.virtqueue.specs.Chains.{descriptor_at, has_next, is_directed, is_inside, broken, chain, part_of, parts_from}
 use Rattle.virtqueue.specs.Layout.{number_at, descriptor_start, available_idx, available_head, ahead, written_at}
 use Rattle.virtqueue.proofs.Walking.{walked_start, walked_end}
 use Rattle.virtqueue.proofs.Bytes.{bytes_more, bytes_none, room_more, room_none, stored_part, stored_none}

@@ -1,11 +1,11 @@
 -- What the two sides of a queue write, and what stays of memory.
-use Rattle.std.proofs.Common.{◌≡◌, ℕ, ◌+◌, ◌*◌, ◌%◌, ◌^◌, ◌<◌, ◌≤◌, List, ◌++◌, [], length, refl, sym, ap, ◌∙◌, arith}
+use Rattle.std.proofs.Common.{◌≡◌, ℕ, ◌+◌, ◌^◌, ◌<◌, ◌≤◌, List, ◌++◌, length, refl, sym, ap, ◌∙◌, arith}
 use Rattle.byteorder.specs.Endian.{little_bytes}
 use Rattle.byteorder.specs.Numbers.{little_number-reads_back}
 use Rattle.virtqueue.specs.declared.queue.Queue.{Queue}
 use Rattle.virtqueue.specs.Layout.{IsQueue, number_at, written_at, descriptor_start, available_idx, available_idx_start, available_place, used_idx_start, used_place, next_index, used_pushed, published}
-use Rattle.kernel_types.specs.GuestMemory.{read_at, used_idx, buffer_start, buffer_size, descriptor_bytes, with_descriptor}
-use Rattle.carry_laws.proofs.Regions.{IsApart, written_length, read_apart, read_written, number_apart, number_inside, number_written, bytes_long}
+use Rattle.kernel_types.specs.GuestMemory.{read_at, used_idx, buffer_start, descriptor_bytes, with_descriptor}
+use Rattle.carry_laws.proofs.Regions.{IsApart, written_length, read_apart, number_apart, number_inside, number_written, bytes_long}
 
 -- all of the memory is there
 abbrev pub IsLong : List ℕ → Type 0

@@ -1,5 +1,5 @@
 -- What the driver writes when it sends a frame and when it gives a buffer.
-use Rattle.std.proofs.Common.{◌≡◌, ℕ, ◌+◌, ◌*◌, ◌%◌, ◌^◌, ◌<◌, ◌≤◌, List, ◌++◌, [], length, refl, sym, ap, subst, ◌∙◌, arith}
+use Rattle.std.proofs.Common.{◌≡◌, ℕ, ◌+◌, ◌%◌, ◌<◌, ◌≤◌, List, length, refl, sym, ap, subst, ◌∙◌, arith}
 use Rattle.virtqueue.specs.Layout.{number_at, written_at, descriptor_start, available_idx, available_idx_start, available_place, next_index, published}
 use Rattle.kernel_types.specs.GuestMemory.{read_at, ring, buffer_start, buffer_size, write_flag, with_descriptor, with_frame, given}
 use Rattle.carry_laws.proofs.Regions.{IsApart, read_written}

@@ -1,16 +1,13 @@
 -- What is due fits in a buffer, as messages are within their limits; and no step of the device but those on its queues changes them.
-use Rattle.std.proofs.Common.{◌≡◌, ℕ, zero, suc, ◌+◌, ◌<◌, ◌≤◌, Bool, true, false, not, cond, ltb, leb, eqb, List, [], ◌∷◌, ◌++◌, Option, Some, None, Result, Ok, Err, length, map, drop, refl, sym, ap, subst, ◌∙◌, arith}
+use Rattle.std.proofs.Common.{◌≡◌, ℕ, zero, suc, ◌≤◌, Bool, true, false, cond, ltb, leb, eqb, List, [], ◌∷◌, Option, Some, None, Result, Ok, Err, length, drop, refl, arith}
 use Rattle.std.specs.Prelude.{slice_get}
 use Rattle.std.specs.List.{AllByRecursion, cons_option, filter_map, find, list_any}
-use Rattle.std.specs.Option.{option_map}
 use Rattle.std.proofs.lemmas.List.Elements.{recursion_from_All}
 use Rattle.kernel_values.specs.declared.errno.Errno.{Errno}
 use Rattle.kernel_values.specs.declared.errno.Errno.TheVariants as errno
-use Rattle.kernel_values.specs.declared.reply.IgnoreCause.{IgnoreCause}
 use Rattle.kernel_values.specs.declared.reply.IgnoreCause.TheVariants as ignored
 use Rattle.kernel_values.specs.declared.state.Body.{Body}
 use Rattle.kernel_values.specs.declared.state.Body.TheVariants as body
-use Rattle.kernel_values.specs.declared.state.ChannelEnd.{ChannelEnd}
 use Rattle.kernel_values.specs.declared.state.CoreState.{CoreState}
 use Rattle.kernel_values.specs.declared.state.Message.{Message}
 use Rattle.kernel_values.specs.declared.state.Object.{Object}
@@ -19,15 +16,15 @@ use Rattle.kernel_values.specs.declared.world.Device.{Device}
 use Rattle.kernel_values.specs.declared.world.Refusal.{Refusal}
 use Rattle.kernel_types.specs.declared.bridge.EndView.{EndView}
 use Rattle.kernel_types.specs.Bridge.{bytes_of, peek_in, ns_connect, ns_peek, ns_view}
-use Rattle.kernel_types.specs.Device.{Due, going_online, refusing, answering, denying, sending, leaving, unanswered_due, answered_due, entry_due, queued_due, due_of, due_frame, due_device, Taken, ignores, fault_cause, entry_between, entry_limit, refusal_limit, request_refused, request_connected, request_taken, take_request, leave_taken, take_control, bytes_taken, take_viewed, take_bytes, take_parsed, take_frame}
+use Rattle.kernel_types.specs.Device.{Due, going_online, refusing, answering, denying, sending, leaving, unanswered_due, answered_due, entry_due, queued_due, due_of, due_frame, due_device, Taken, ignores, entry_between, entry_limit, refusal_limit, request_refused, request_connected, request_taken, leave_taken, take_control, bytes_taken, take_viewed, take_bytes, take_parsed, take_frame}
 use Rattle.kernel_types.specs.Errors.{number_of}
 use Rattle.kernel_types.specs.Events.{is_disconnected, is_filled}
 use Rattle.kernel_types.specs.GuestMemory.{buffer_size}
-use Rattle.kernel_types.specs.Limits.{IsBodyWithin, IsEndWithin, IsMessageWithin}
-use Rattle.kernel_types.specs.Objects.{as_end, end_in, end_of, object_of, place_of}
-use Rattle.kernel_types.specs.Sending.{control_address, frame}
+use Rattle.kernel_types.specs.Limits.{IsBodyWithin, IsMessageWithin}
+use Rattle.kernel_types.specs.Objects.{as_end, end_in, place_of}
+use Rattle.kernel_types.specs.Sending.{control_address}
 use Rattle.tipc_proto.specs.declared.controls.Control.{Control}
-use Rattle.tipc_proto.specs.declared.controls.Control.TheVariants.{GoOnline, GoOffline, ConnReq, ConnRsp, DiscReq}
+use Rattle.tipc_proto.specs.declared.controls.Control.TheVariants.{ConnReq, DiscReq}
 use Rattle.tipc_proto.specs.declared.faults.FrameFault.{FrameFault}
 use Rattle.tipc_proto.specs.declared.frames.Frame.{Frame}
 use Rattle.tipc_proto.specs.Controls.{control_in}

@@ -1,12 +1,12 @@
 -- Queue 0: the buffers that the driver gave to the device.
-use Rattle.std.proofs.Common.{◌≡◌, ◌≢◌, ℕ, suc, ◌+◌, ◌*◌, ◌-◌, ◌%◌, ◌^◌, ◌<◌, ◌≤◌, List, [], ◌∷◌, ◌++◌, length, map, refl, sym, ap, subst, ◌∙◌, arith, append_assoc}
+use Rattle.std.proofs.Common.{◌≡◌, ◌≢◌, ℕ, ◌+◌, ◌-◌, ◌%◌, ◌<◌, ◌≤◌, List, [], ◌∷◌, ◌++◌, length, map, refl, sym, ap, subst, ◌∙◌, arith, append_assoc}
 use Rattle.std.specs.List.{fold}
 use Rattle.std.proofs.lemmas.List.{length-append, append-nil}
-use Rattle.virtqueue.specs.Layout.{number_at, available_idx, available_idx_start, available_place, descriptor_start, used_idx_start, used_place, next_index}
-use Rattle.kernel_types.specs.GuestMemory.{read_at, ring, used_idx, buffer_count, buffer_start, buffer_size, write_flag, given}
+use Rattle.virtqueue.specs.Layout.{number_at, available_idx, available_place, used_idx_start, next_index}
+use Rattle.kernel_types.specs.GuestMemory.{ring, used_idx, buffer_count, buffer_size, write_flag, given}
 use Rattle.carry_laws.proofs.Changes.{IsLong, Describes}
 use Rattle.carry_laws.proofs.DriverWrites.{Given, gives, described_kept}
-use Rattle.carry_laws.proofs.Lists.{AllFrom, AllOf, one_if, from_kept, from_mapped, from_append, from_at, times, times_append, times_none, once_more, apart_in_ring}
+use Rattle.carry_laws.proofs.Lists.{AllFrom, AllOf, from_kept, from_append, times, times_append, times_none, once_more, apart_in_ring}
 use Rattle.carry_laws.proofs.Rings.{IsRingSize, SameQueue, same_queue_twice, next_of, available_at}
 
 -- the available ring offers a whole buffer to write into

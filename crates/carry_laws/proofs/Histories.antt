@@ -1,5 +1,5 @@
 -- Along a history: what was taken off is what was on its way and was added, but for what is still on its way.
-use Rattle.std.proofs.Common.{◌≡◌, ℕ, zero, suc, ◌+◌, ◌-◌, ◌<◌, ◌≤◌, Bool, true, false, ltb, List, [], ◌∷◌, ◌++◌, Option, Some, None, length, map, refl, sym, ap, subst, ◌∙◌, arith, append_assoc}
+use Rattle.std.proofs.Common.{◌≡◌, ℕ, zero, suc, ◌+◌, ◌-◌, ◌<◌, ◌≤◌, true, List, [], ◌∷◌, ◌++◌, Option, Some, None, length, map, refl, sym, ap, ◌∙◌, arith, append_assoc}
 use Rattle.std.specs.Prelude.{slice_get}
 use Rattle.std.specs.List.{enumerate_from, flat_map, list_all}
 use Rattle.std.specs.Option.{option_map}
@@ -21,18 +21,18 @@ use Rattle.kernel_types.specs.Carried.{IsCarried, is_honest, offered, offered_in
 use Rattle.kernel_types.specs.History.{Legal, entry_of, next_state, state_after, state_or}
 use Rattle.kernel_types.specs.Limits.{IsBodyWithin, IsWithinLimits}
 use Rattle.kernel_types.specs.Opening.{opening, opening_client, opening_threads, opening_activity}
-use Rattle.kernel_types.specs.Step.{Stepped, client_number, is_thread, step}
+use Rattle.kernel_types.specs.Step.{Stepped, step}
 use Rattle.kernel_types.specs.Whole.{FollowsScripts}
 use Rattle.kernel_laws.specs.Actors.{HasSameActors}
 use Rattle.kernel_laws.proofs.SameActors.{steps_keep}
 use Rattle.kernel_laws.proofs.Small.{opening_within, steps_within}
 use Rattle.carry_laws.proofs.Carrying.{Carrying}
 use Rattle.carry_laws.proofs.Dues.{AreWithin}
-use Rattle.carry_laws.proofs.Honest.{IsHonest, IsHonestEntry, all_honest}
+use Rattle.carry_laws.proofs.Honest.{IsHonestEntry, all_honest}
 use Rattle.carry_laws.proofs.Lists.{AllOf}
 use Rattle.carry_laws.proofs.Moves.{Moved}
 use Rattle.carry_laws.proofs.Opened.{opening_carries}
-use Rattle.carry_laws.proofs.Steps.{IfMoved, IsHonestEvent, Moves, step_moves}
+use Rattle.carry_laws.proofs.Steps.{IsHonestEvent, Moves, step_moves}
 
 -- The actors stay, and all stays within its limits.
 

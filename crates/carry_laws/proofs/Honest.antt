@@ -1,10 +1,8 @@
 -- In a history that follows the scripts of honest clients, each call of a client is an honest one.
-use Rattle.std.proofs.Common.{◌≡◌, ℕ, zero, suc, ◌+◌, ◌-◌, ◌<◌, ◌≤◌, Bool, true, false, ◌&&◌, cond, eqb, List, [], ◌∷◌, ◌++◌, Option, Some, None, length, map, refl, sym, ap, subst, ◌∙◌, arith}
+use Rattle.std.proofs.Common.{◌≡◌, ℕ, zero, suc, ◌-◌, ◌≤◌, Bool, true, false, ◌&&◌, cond, eqb, List, [], ◌∷◌, ◌++◌, Option, Some, None, length, map, refl, ap, subst, arith}
 use Rattle.std.specs.Prelude.{slice_get}
 use Rattle.std.specs.List.{cons_option, flat_map, filter_map, fold, list_all}
-use Rattle.std.specs.Option.{option_map}
 use Rattle.std.proofs.lemmas.Bool.{eq-eqb}
-use mathlib.Core.List.{IsPrefix}
 use Rattle.kernel_values.specs.SceneLaw.{SceneValue, scripts_of}
 use Rattle.kernel_values.specs.declared.call.Call.{Call}
 use Rattle.kernel_values.specs.declared.call.Call.TheVariants as call

@@ -1,19 +1,19 @@
 -- Queue 0: the frames on their way to the driver, and the buffers that the device has.
-use Rattle.std.proofs.Common.{◌≡◌, ◌≢◌, ℕ, suc, ◌+◌, ◌*◌, ◌-◌, ◌%◌, ◌^◌, ◌<◌, ◌≤◌, Bool, true, ◌&&◌, leb, ltb, List, [], ◌∷◌, ◌++◌, Some, None, Ok, length, map, refl, sym, ap, subst, ◌∙◌, arith}
+use Rattle.std.proofs.Common.{◌≡◌, ◌≢◌, ℕ, suc, ◌+◌, ◌-◌, ◌%◌, ◌<◌, ◌≤◌, true, leb, ltb, List, [], ◌∷◌, ◌++◌, Some, None, Ok, length, map, refl, sym, ap, subst, ◌∙◌, arith}
 use Rattle.std.specs.List.{filter, fold, range_with_len}
 use Rattle.std.proofs.lemmas.Bool.{lt-ltb, le-leb}
 use Rattle.std.proofs.lemmas.List.{length-append, map_push, length-map}
 use Rattle.virtqueue.specs.declared.queue.Queue.{Queue}
 use Rattle.virtqueue.specs.Chains.{chain}
-use Rattle.virtqueue.specs.Layout.{number_at, written_at, ahead, available_idx, available_head, available_idx_start, available_place, descriptor_start, used_idx_start, used_place, next_index, used_pushed}
+use Rattle.virtqueue.specs.Layout.{number_at, written_at, ahead, available_idx, available_head, available_idx_start, available_place, used_idx_start, used_place, used_pushed}
 use Rattle.kernel_types.specs.Device.{queue_after}
 use Rattle.kernel_types.specs.Drains.{is_readable, frame_at}
 use Rattle.kernel_types.specs.GuestMemory.{UsedElement, read_at, ring, used_idx, used_element, new_elements, buffer_count, buffer_start, buffer_size, write_flag, given}
-use Rattle.carry_laws.proofs.Changes.{IsLong, Wrote, wrote, Describes, Pushed, pushed}
+use Rattle.carry_laws.proofs.Changes.{IsLong, Wrote, wrote, Pushed, pushed}
 use Rattle.carry_laws.proofs.Chains.{buffer_part, no_chain, one_chain}
-use Rattle.carry_laws.proofs.DriverWrites.{described_kept, index_kept}
+use Rattle.carry_laws.proofs.DriverWrites.{described_kept}
 use Rattle.carry_laws.proofs.Giving.{IsReady, AreReady, AllGiven, all_given}
-use Rattle.carry_laws.proofs.Lists.{AllFrom, AllOf, from_kept, from_mapped, from_append, from_at, from_range, from_moved, from_of, of_mapped, times, times_append, times_none, once_more, apart_in_ring}
+use Rattle.carry_laws.proofs.Lists.{AllFrom, AllOf, from_kept, from_mapped, from_append, from_at, from_range, from_moved, times, times_append, times_none, once_more, apart_in_ring}
 use Rattle.carry_laws.proofs.Outgoing.{Flight, places_of, same_available}
 use Rattle.carry_laws.proofs.Regions.{IsApart, read_written}
 use Rattle.carry_laws.proofs.Rings.{IsRingSize, SameQueue, same_number, queue_at, queue_goes_on, queue_is_queue, next_of, ahead_by, not_ahead, available_at, used_at}
@@ -185,10 +185,10 @@ given_by size memory queue seen_index place frame rest flights is short o =
             }));
       };
       distinct = λ p.
-      let before : times p (places_of flights) + times p (place ∷ rest) ≤ 1 = o.distinct p in
-      let moved : times p (places_of (flights ++ flight ∷ [])) ≡ times p (places_of flights) + times p (place ∷ []) =
-      ap (times p) (map_push (λ (x : Flight). x.place) flights flight) ∙ times_append p (places_of flights) (place ∷ []) in
-      omega arith;
+          let before : times p (places_of flights) + times p (place ∷ rest) ≤ 1 = o.distinct p in
+          let moved : times p (places_of (flights ++ flight ∷ [])) ≡ times p (places_of flights) + times p (place ∷ []) =
+          ap (times p) (map_push (λ (x : Flight). x.place) flights flight) ∙ times_append p (places_of flights) (place ∷ []) in
+          omega arith;
       count = omega (arith, length-append flights (flight ∷ []));
     }
   where

@@ -1,15 +1,14 @@
 -- What one step carries, in either direction.
-use Rattle.std.proofs.Common.{◌≡◌, ℕ, ◌+◌, ◌<◌, ◌≤◌, Bool, true, false, not, ◌&&◌, cond, ltb, List, [], ◌∷◌, ◌++◌, Option, Some, None, Result, Ok, Err, length, map, refl, sym, ap, subst, ◌∙◌, arith}
+use Rattle.std.proofs.Common.{◌≡◌, ℕ, ◌+◌, ◌<◌, ◌≤◌, true, false, not, ◌&&◌, cond, ltb, List, [], ◌∷◌, ◌++◌, Option, Some, None, length, refl, sym, ap, subst, ◌∙◌, arith}
 use Rattle.std.specs.Option.{option_map}
 use Rattle.std.proofs.lemmas.List.{append-nil, map_push}
 use Rattle.kernel_values.specs.declared.reply.BreakCause.TheVariants as broken
 use Rattle.kernel_values.specs.declared.reply.DeviceReply.TheVariants as device
 use Rattle.kernel_values.specs.declared.state.State.{State}
-use Rattle.kernel_values.specs.declared.world.ClientState.{ClientState}
 use Rattle.kernel_values.specs.declared.world.Device.{Device}
 use Rattle.kernel_values.specs.declared.world.World.{World}
 use Rattle.kernel_types.specs.Carried.{one_if}
-use Rattle.kernel_types.specs.Device.{DeviceStep, Due, due_of, due_frame, due_device, due_change, Taken, broke, has_device, queue_after, sent_by_device, sent_world, send_due, step_by_due, take_chain, take_frame, take_next, take_step, taken_by_device, device_step}
+use Rattle.kernel_types.specs.Device.{DeviceStep, Due, due_of, due_frame, due_device, Taken, broke, has_device, queue_after, sent_by_device, send_due, step_by_due, take_chain, take_frame, take_next, take_step, taken_by_device, device_step}
 use Rattle.kernel_types.specs.GuestMemory.{buffer_size, buffer_start}
 use Rattle.virtqueue.specs.declared.chain.Chain.{Chain}
 use Rattle.virtqueue.specs.declared.queue.Queue.{Queue}
@@ -21,7 +20,6 @@ use Rattle.carry_laws.proofs.Chains.{buffer_part, not_below, one_room, one_store
 use Rattle.carry_laws.proofs.Dues.{AreWithin, IfFits, IfTaken, SameQueues, due_fits, due_keeps, frame_keeps}
 use Rattle.carry_laws.proofs.Incoming.{Incoming, given_to, gives_frame, gave_elsewhere, incoming_kept, next_ready, nothing_ready}
 use Rattle.carry_laws.proofs.Outgoing.{Flight, Outgoing, outgoing_kept}
-use Rattle.carry_laws.proofs.Rings.{IsRingSize}
 use Rattle.carry_laws.proofs.Taking.{LeavesOther, next_bytes, next_out, nothing_out, taken_elsewhere, takes}
 
 -- of what was on its way and what is added, what was taken off came first, and the rest is on its way

@@ -1,22 +1,21 @@
 -- At the beginning nothing is on its way, and all the buffers of queue 0 are ready.
-use Rattle.std.proofs.Common.{◌≡◌, ℕ, zero, suc, ◌+◌, ◌*◌, ◌-◌, ◌%◌, ◌^◌, ◌<◌, ◌≤◌, Bool, true, false, ◌||◌, eqb, List, [], ◌∷◌, ◌++◌, length, drop, map, refl, sym, ap, subst, ◌∙◌, arith}
-use Rattle.std.specs.Prelude.{replicate, slice_index, IsTrue}
-use Rattle.std.specs.List.{list_any, fold, range_with_len}
+use Rattle.std.proofs.Common.{◌≡◌, ℕ, zero, suc, ◌+◌, ◌-◌, ◌%◌, ◌<◌, ◌≤◌, Bool, true, false, ◌||◌, eqb, List, [], ◌∷◌, refl, ap, subst, ◌∙◌, arith}
+use Rattle.std.specs.Prelude.{replicate, slice_index}
+use Rattle.std.specs.List.{list_any, range_with_len}
 use Rattle.std.proofs.lemmas.Bool.{eqb-true}
 use Rattle.std.proofs.lemmas.List.{drop-replicate, length-replicate}
 use Rattle.std.proofs.lemmas.List.FromFn.{length-range_with_len}
 use Rattle.byteorder.specs.Endian.{little_from}
 use Rattle.kernel_values.specs.SceneLaw.{SceneValue, is_queue_size}
-use Rattle.kernel_types.specs.GuestMemory.{memory_size, blank_memory, opening_memory, ring, used_idx, buffer_count, given}
-use Rattle.kernel_types.specs.Opening.{opening, opening_world}
+use Rattle.kernel_types.specs.GuestMemory.{memory_size, blank_memory, opening_memory, ring, buffer_count}
+use Rattle.kernel_types.specs.Opening.{opening}
 use Rattle.virtqueue.specs.Layout.{number_at, available_idx, available_idx_start, used_idx_start}
 use Rattle.carry_laws.proofs.Carrying.{Carrying}
 use Rattle.carry_laws.proofs.Changes.{IsLong}
-use Rattle.carry_laws.proofs.Giving.{AreReady, AllGiven, OnlyGiven, all_given}
-use Rattle.carry_laws.proofs.Incoming.{Incoming}
-use Rattle.carry_laws.proofs.Lists.{AllFrom, AllOf, one_if, times}
+use Rattle.carry_laws.proofs.Giving.{AllGiven, all_given}
+use Rattle.carry_laws.proofs.Lists.{AllOf, one_if, times}
 use Rattle.carry_laws.proofs.Outgoing.{Outgoing, outgoing_kept}
-use Rattle.carry_laws.proofs.Rings.{IsRingSize, SameQueue, same_number, queue_at}
+use Rattle.carry_laws.proofs.Rings.{IsRingSize}
 
 -- The sizes of queues.
 
@@ -34,16 +33,31 @@ of_power : (power : ℕ) → 1 ≤ power → power ≤ 256 → ((i : ℕ) → i 
 of_power power low high wraps = record { low = low; high = high; wraps = wraps }
 
 powers_fit : AllOf IsRingSize (1 ∷ 2 ∷ 4 ∷ 8 ∷ 16 ∷ 32 ∷ 64 ∷ 128 ∷ 256 ∷ [])
-powers_fit =
-    (of_power 1 (omega arith) (omega arith) (λ i. omega arith),
-    (of_power 2 (omega arith) (omega arith) (λ i. omega arith),
-    (of_power 4 (omega arith) (omega arith) (λ i. omega arith),
-    (of_power 8 (omega arith) (omega arith) (λ i. omega arith),
-    (of_power 16 (omega arith) (omega arith) (λ i. omega arith),
-    (of_power 32 (omega arith) (omega arith) (λ i. omega arith),
-    (of_power 64 (omega arith) (omega arith) (λ i. omega arith),
-    (of_power 128 (omega arith) (omega arith) (λ i. omega arith),
-    (of_power 256 (omega arith) (omega arith) (λ i. omega arith), tt)))))))))
+powers_fit = (
+  of_power 1 (omega arith) (omega arith) (λ i. omega arith),
+  (
+    of_power 2 (omega arith) (omega arith) (λ i. omega arith),
+    (
+      of_power 4 (omega arith) (omega arith) (λ i. omega arith),
+      (
+        of_power 8 (omega arith) (omega arith) (λ i. omega arith),
+        (
+          of_power 16 (omega arith) (omega arith) (λ i. omega arith),
+          (
+            of_power 32 (omega arith) (omega arith) (λ i. omega arith),
+            (
+              of_power 64 (omega arith) (omega arith) (λ i. omega arith),
+              (
+                of_power 128 (omega arith) (omega arith) (λ i. omega arith),
+                (of_power 256 (omega arith) (omega arith) (λ i. omega arith), tt),
+              ),
+            ),
+          ),
+        ),
+      ),
+    ),
+  ),
+)
 
 pub ring_size : (size : ℕ) → is_queue_size size ≡ true → IsRingSize size
 ring_size size is = size_found IsRingSize size (1 ∷ 2 ∷ 4 ∷ 8 ∷ 16 ∷ 32 ∷ 64 ∷ 128 ∷ 256 ∷ []) powers_fit is

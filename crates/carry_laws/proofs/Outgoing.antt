@@ -1,17 +1,13 @@
 -- Queue 1: the frames on their way to the device, and where each descriptor of the driver's is.
-use Rattle.std.proofs.Common.{◌≡◌, ◌≢◌, ℕ, ◌+◌, ◌*◌, ◌-◌, ◌%◌, ◌^◌, ◌<◌, ◌≤◌, List, [], ◌∷◌, ◌++◌, Some, None, Ok, length, map, refl, sym, ap, subst, ◌∙◌, arith}
+use Rattle.std.proofs.Common.{◌≡◌, ◌≢◌, ℕ, ◌+◌, ◌-◌, ◌%◌, ◌<◌, ◌≤◌, List, [], ◌∷◌, ◌++◌, length, map, sym, ap, ◌∙◌, arith}
 use Rattle.std.proofs.lemmas.List.{length-append, map_push}
 use Rattle.virtqueue.specs.declared.queue.Queue.{Queue}
-use Rattle.virtqueue.specs.Bytes.{bytes_at}
-use Rattle.virtqueue.specs.Chains.{chain}
-use Rattle.virtqueue.specs.Layout.{number_at, available_idx, available_head, available_idx_start, available_place, descriptor_start, used_idx_start, used_place, next_index, used_pushed}
-use Rattle.kernel_types.specs.Device.{queue_after}
+use Rattle.virtqueue.specs.Layout.{number_at, available_idx, available_idx_start, available_place, used_idx_start, used_place, next_index}
 use Rattle.kernel_types.specs.GuestMemory.{read_at, ring, used_idx, buffer_count, buffer_start, buffer_size, with_frame}
-use Rattle.carry_laws.proofs.Changes.{IsLong, Describes, Pushed, pushed}
-use Rattle.carry_laws.proofs.Chains.{buffer_part, no_chain, one_chain, one_read}
+use Rattle.carry_laws.proofs.Changes.{IsLong, Describes}
 use Rattle.carry_laws.proofs.DriverWrites.{Framed, framed, described_kept}
-use Rattle.carry_laws.proofs.Lists.{AllFrom, AllOf, from_kept, from_mapped, from_append, from_at, times, times_append, times_none, once_more, apart_in_ring}
-use Rattle.carry_laws.proofs.Rings.{IsRingSize, SameQueue, same_number, queue_at, queue_goes_on, queue_is_queue, next_of, ahead_by, not_ahead, available_at, used_at}
+use Rattle.carry_laws.proofs.Lists.{AllFrom, AllOf, from_kept, from_mapped, from_append, times, times_append, times_none, once_more, apart_in_ring}
+use Rattle.carry_laws.proofs.Rings.{IsRingSize, SameQueue, same_number, queue_at, next_of, available_at}
 
 -- a frame in the buffer of a descriptor
 pub record Flight : Type 0 where
@@ -143,9 +139,9 @@ sends size place frame memory queue seen_index rest flights is long short o =
           (λ k back first last there. record { used = f.numbers 4 (used_place (ring 1 size) k) (omega arith) (omega arith) (omega arith) (omega arith) ∙ there.used; below = there.below });
       lowest = o.lowest.1;
       distinct = λ p.
-      let before : times p (places_of flights) + times p o.back + times p (place ∷ rest) ≤ 1 = o.distinct p in
-      let moved : times p (places_of (flights ++ flight ∷ [])) ≡ times p (places_of flights) + times p (place ∷ []) =
-      ap (times p) (map_push (λ (x : Flight). x.place) flights flight) ∙ times_append p (places_of flights) (place ∷ []) in
-      omega arith;
+          let before : times p (places_of flights) + times p o.back + times p (place ∷ rest) ≤ 1 = o.distinct p in
+          let moved : times p (places_of (flights ++ flight ∷ [])) ≡ times p (places_of flights) + times p (place ∷ []) =
+          ap (times p) (map_push (λ (x : Flight). x.place) flights flight) ∙ times_append p (places_of flights) (place ∷ []) in
+          omega arith;
       count = omega (arith, length-append flights (flight ∷ []), o.count);
     }

@@ -1,5 +1,5 @@
 -- The rings of the two queues: what stands in them, and how their indexes go round.
-use Rattle.std.proofs.Common.{◌≡◌, ◌≢◌, ℕ, ◌+◌, ◌*◌, ◌%◌, ◌<◌, ◌≤◌, List, length, refl, sym, ap, ◌∙◌, arith}
+use Rattle.std.proofs.Common.{◌≡◌, ◌≢◌, ℕ, ◌+◌, ◌*◌, ◌%◌, ◌<◌, ◌≤◌, List, sym, ap, ◌∙◌, arith}
 use Rattle.virtqueue.specs.declared.queue.Queue.{Queue}
 use Rattle.virtqueue.specs.Layout.{IsQueue, number_at, ahead, next_index, available_place, used_place}
 use Rattle.kernel_types.specs.GuestMemory.{read_at, ring}

@@ -1,26 +1,24 @@
 -- Each step carries.
-use Rattle.std.proofs.Common.{◌≡◌, ℕ, ◌+◌, ◌<◌, ◌≤◌, Bool, true, false, not, cond, eqb, List, [], ◌∷◌, ◌++◌, Option, Some, None, length, map, refl, sym, ap, subst, ◌∙◌, arith}
+use Rattle.std.proofs.Common.{◌≡◌, ℕ, Bool, true, false, cond, eqb, List, [], ◌++◌, Option, Some, None, refl, sym, ap}
 use Rattle.std.specs.Prelude.{slice_get}
 use Rattle.std.specs.Option.{option_map}
 use Rattle.std.proofs.lemmas.List.{append-nil}
 use Rattle.kernel_values.specs.declared.call.Call.{Call}
 use Rattle.kernel_values.specs.declared.entry.Event.{Event}
 use Rattle.kernel_values.specs.declared.entry.Event.TheVariants as event
-use Rattle.kernel_values.specs.declared.state.CoreState.{CoreState}
 use Rattle.kernel_values.specs.declared.state.State.{State}
 use Rattle.kernel_values.specs.declared.world.ClientActivity.{ClientActivity}
 use Rattle.kernel_values.specs.declared.world.ClientActivity.TheVariants as activity
 use Rattle.kernel_values.specs.declared.world.ClientState.{ClientState}
-use Rattle.kernel_values.specs.declared.world.ClientWait.{ClientWait}
 use Rattle.kernel_values.specs.declared.world.World.{World}
-use Rattle.kernel_types.specs.Carried.{one_if, client_frame, where_done, given_frame, taken_frame, client_step, event_drains, offered_in, drained_in, given_in, taken_in, is_honest_call}
-use Rattle.kernel_types.specs.Clients.{Acted, client_running, drains, end_of_ns_wait, ns_act}
+use Rattle.kernel_types.specs.Carried.{one_if, client_frame, where_done, given_frame, taken_frame, offered_in, drained_in, given_in, taken_in, is_honest_call}
+use Rattle.kernel_types.specs.Clients.{Acted, drains, end_of_ns_wait, ns_act}
 use Rattle.kernel_types.specs.CoreStep.{core_begin, core_resume}
 use Rattle.kernel_types.specs.Device.{DeviceStep, device_step}
 use Rattle.kernel_types.specs.Drains.{drained, drained_frames}
 use Rattle.kernel_types.specs.Outcome.{Outcome}
-use Rattle.kernel_types.specs.Step.{Stepped, in_world, beside_core, begin, client_begin, client_call_as, client_call_of, client_number, client_resume, client_resume_as, client_resume_of, device_stepped, full_step, idle, idle_lawful, is_built_event, is_thread, next_deadline, resume, runs_again, step, world_idle}
-use Rattle.carry_laws.proofs.Calls.{Acts, ActsAs, IfActs, call_acts, wait_ends, with_clients}
+use Rattle.kernel_types.specs.Step.{Stepped, in_world, beside_core, client_begin, client_call_as, client_call_of, client_number, client_resume, client_resume_as, client_resume_of, device_stepped, full_step, idle, idle_lawful, is_built_event, is_thread, next_deadline, runs_again, step, world_idle}
+use Rattle.carry_laws.proofs.Calls.{ActsAs, IfActs, call_acts, wait_ends, with_clients}
 use Rattle.carry_laws.proofs.Carrying.{Carrying, drained_carries}
 use Rattle.carry_laws.proofs.Dues.{AreWithin}
 use Rattle.carry_laws.proofs.Moves.{IfDevice, Moved, device_moves}

@@ -1,16 +1,16 @@
 -- Queue 1: what the device finds and takes, and what the driver sees of it.
-use Rattle.std.proofs.Common.{◌≡◌, ◌≢◌, ℕ, suc, ◌+◌, ◌*◌, ◌-◌, ◌%◌, ◌^◌, ◌<◌, ◌≤◌, Bool, true, false, cond, eqb, ltb, List, [], ◌∷◌, ◌++◌, Some, None, Ok, length, map, refl, sym, ap, subst, ◌∙◌, arith}
+use Rattle.std.proofs.Common.{◌≡◌, ◌≢◌, ℕ, suc, ◌+◌, ◌-◌, ◌%◌, ◌<◌, ◌≤◌, Bool, true, false, cond, eqb, ltb, List, [], ◌∷◌, ◌++◌, Some, None, Ok, length, map, refl, sym, ap, subst, ◌∙◌, arith}
 use Rattle.std.specs.List.{filter, fold, insert, list_any, position_or_len, range_with_len}
 use Rattle.std.proofs.lemmas.Bool.{lt-ltb}
-use Rattle.std.proofs.lemmas.List.{length-append, map_push}
+use Rattle.std.proofs.lemmas.List.{length-append}
 use Rattle.virtqueue.specs.declared.queue.Queue.{Queue}
 use Rattle.virtqueue.specs.Bytes.{bytes_at}
 use Rattle.virtqueue.specs.Chains.{chain}
-use Rattle.virtqueue.specs.Layout.{number_at, ahead, available_idx, available_head, available_idx_start, available_place, descriptor_start, used_idx_start, used_place, next_index, used_pushed}
+use Rattle.virtqueue.specs.Layout.{number_at, ahead, available_idx, available_head, available_idx_start, available_place, used_place, used_pushed}
 use Rattle.kernel_types.specs.Device.{queue_after}
 use Rattle.kernel_types.specs.Drains.{with_free}
-use Rattle.kernel_types.specs.GuestMemory.{UsedElement, read_at, ring, used_idx, used_element, new_elements, elements_after, buffer_count, buffer_start, buffer_size}
-use Rattle.carry_laws.proofs.Changes.{IsLong, Describes, Pushed, pushed}
+use Rattle.kernel_types.specs.GuestMemory.{UsedElement, ring, used_idx, used_element, new_elements, elements_after, buffer_count, buffer_start, buffer_size}
+use Rattle.carry_laws.proofs.Changes.{IsLong, Pushed, pushed}
 use Rattle.carry_laws.proofs.Chains.{buffer_part, no_chain, one_chain, one_read, not_below}
 use Rattle.carry_laws.proofs.DriverWrites.{described_kept}
 use Rattle.carry_laws.proofs.Lists.{AllFrom, AllOf, one_if, from_mapped, from_append, from_at, from_range, from_moved, from_of, of_mapped, of_inserted, times, times_append, times_inserted, length_inserted, none_any, once_more, apart_in_ring}
@@ -97,9 +97,9 @@ taken_by size memory seen_index free flight flights queue is long o same =
           (record { used = ap (λ n. number_at 4 n after) (sym slot) ∙ p.id_is; below = low }, tt);
       lowest = o.lowest;
       distinct = λ n.
-      let before : times n (places_of (flight ∷ flights)) + times n o.back + times n free ≤ 1 = o.distinct n in
-      let moved : times n (o.back ++ flight.place ∷ []) ≡ times n o.back + times n (flight.place ∷ []) = times_append n o.back (flight.place ∷ []) in
-      omega arith;
+          let before : times n (places_of (flight ∷ flights)) + times n o.back + times n free ≤ 1 = o.distinct n in
+          let moved : times n (o.back ++ flight.place ∷ []) ≡ times n o.back + times n (flight.place ∷ []) = times_append n o.back (flight.place ∷ []) in
+          omega arith;
       count = omega arith;
     }
   where
@@ -151,9 +151,9 @@ came_back : (size : ℕ) (memory : List ℕ) (seen : ℕ) (back : List ℕ) → 
 came_back size memory seen back is coming =
     map_map (λ k. used_element memory (ring 1 size) ((seen % 65536 + k) % 65536)) (λ (element : UsedElement). element.id) (range_with_len 0 (length back))
     ∙ from_range (λ k. number_at 4 (used_place (ring 1 size) ((seen % 65536 + k) % 65536)) memory) (λ x. x) 0 back
-        (from_mapped (λ k x. IsBack size memory (seen + k) x) (λ k x. number_at 4 (used_place (ring 1 size) ((seen % 65536 + k) % 65536)) memory ≡ x) 0 back
-        (from_moved (IsBack size memory) seen 0 back (from_at (IsBack size memory) seen (seen + 0) back (omega arith) coming))
-        (λ k x low high there. ap (λ n. number_at 4 (used_place (ring 1 size) n) memory) (seen_on seen k) ∙ ap (λ n. number_at 4 n memory) (used_at 1 size (seen + k) is) ∙ there.used))
+    (from_mapped (λ k x. IsBack size memory (seen + k) x) (λ k x. number_at 4 (used_place (ring 1 size) ((seen % 65536 + k) % 65536)) memory ≡ x) 0 back
+    (from_moved (IsBack size memory) seen 0 back (from_at (IsBack size memory) seen (seen + 0) back (omega arith) coming))
+    (λ k x low high there. ap (λ n. number_at 4 (used_place (ring 1 size) n) memory) (seen_on seen k) ∙ ap (λ n. number_at 4 n memory) (used_at 1 size (seen + k) is) ∙ there.used))
     ∙ map_self back
 
 -- what is free after some descriptors came back
