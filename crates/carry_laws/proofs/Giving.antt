@@ -1,13 +1,13 @@
 -- Queue 0: the buffers that the driver gave to the device.
-use Rattle.std.proofs.Common.{◌≡◌, ◌≢◌, ℕ, ◌+◌, ◌-◌, ◌%◌, ◌<◌, ◌≤◌, List, [], ◌∷◌, ◌++◌, length, map, refl, sym, ap, subst, ◌∙◌, arith, append_assoc}
+use Rattle.std.proofs.Common.{◌≡◌, ◌≢◌, ℕ, ◌+◌, ◌%◌, ◌<◌, ◌≤◌, List, [], ◌∷◌, ◌++◌, length, refl, sym, ap, subst, ◌∙◌, arith, append_assoc}
 use Rattle.std.specs.List.{fold}
 use Rattle.std.proofs.lemmas.List.{length-append, append-nil}
 use Rattle.virtqueue.specs.Layout.{number_at, available_idx, available_place, used_idx_start, next_index}
 use Rattle.kernel_types.specs.GuestMemory.{ring, used_idx, buffer_count, buffer_size, write_flag, given}
 use Rattle.carry_laws.proofs.Changes.{IsLong, Describes}
 use Rattle.carry_laws.proofs.DriverWrites.{Given, gives, described_kept}
-use Rattle.carry_laws.proofs.Lists.{AllFrom, AllOf, from_kept, from_append, times, times_append, times_none, once_more, apart_in_ring}
-use Rattle.carry_laws.proofs.Rings.{IsRingSize, SameQueue, same_queue_twice, next_of, available_at}
+use Rattle.carry_laws.proofs.Lists.{AllFrom, AllOf, from_kept, from_append, times, times_append, times_none, once_more, map_self}
+use Rattle.carry_laws.proofs.Rings.{IsRingSize, SameQueue, same_queue_twice, next_of, available_at, slot_apart}
 
 -- the available ring offers a whole buffer to write into
 pub record IsReady (size : ℕ) (memory : List ℕ) (at place : ℕ) : Type 0 where
@@ -25,15 +25,6 @@ pub record AreReady (size : ℕ) (memory : List ℕ) (at : ℕ) (ready : List �
 pub record OnlyGiven (before after : List ℕ) : Type 0 where
   pub other_queue : SameQueue 1 before after
   pub used_same : used_idx after 0 ≡ used_idx before 0
-
--- the slot that is written is none of those that are in use
-pub slot_apart : (index size at k len : ℕ) (memory : List ℕ) → IsRingSize size → available_idx memory index ≡ (at + len) % 65536
-    → k < at + len → at + len < k + size → available_idx memory index % size ≢ k % size
-slot_apart index size at k len memory is idx below few same =
-    let sum : k + (at + len - k) ≡ at + len = omega arith in
-    let apart : (k + (at + len - k)) % size ≢ k % size = apart_in_ring size k (at + len - k) (omega arith) (omega arith) in
-    let there : (at + len) % size ≡ k % size = sym (is.wraps (at + len)) ∙ ap (λ n. n % size) (sym idx) ∙ same in
-    apart (ap (λ n. n % size) sum ∙ there)
 
 ready_kept : (size place : ℕ) (memory after : List ℕ) (k other : ℕ) → IsRingSize size → Given size place memory after → place < buffer_count size → other ≢ place
     → available_idx memory 0 % size ≢ k % size → IsReady size memory k other → IsReady size after k other
@@ -65,10 +56,6 @@ one_given size memory at ready place is r low none few =
           (λ k other first last apart there. ready_kept size place memory after k other is g low apart (slot_apart 0 size at k (length ready) memory is r.available_is (omega arith) (omega arith)) there))
           (record { offered = ap (λ n. number_at 2 n after) (sym slot) ∙ g.offered; described = g.described; below = low }, tt);
     }
-  where
-    map_self : (xs : List ℕ) → map (λ x. x) xs ≡ xs
-    map_self [] = refl
-    map_self (x ∷ xs) = ap (λ ys. x ∷ ys) (map_self xs)
 
 pub only_one : (size : ℕ) (memory : List ℕ) (place : ℕ) → IsRingSize size → IsLong memory → place < buffer_count size → OnlyGiven memory (given size memory place)
 only_one size memory place is long low =

@@ -99,10 +99,10 @@ below_length [] at x is = absurd (cc)
 below_length (y ∷ ys) zero x is = omega arith
 below_length (y ∷ ys) (suc at) x is = let less : at < length ys = below_length ys at x is in omega arith
 
-is_there : {X : Type 0} (xs : List X) (at : ℕ) → at < length xs → (x : X) × (slice_get xs at ≡ Some x)
-is_there [] at lt = absurd (omega arith)
-is_there (x ∷ xs) zero lt = (x, refl)
-is_there (x ∷ xs) (suc at) lt = is_there xs at (omega arith)
+found_below : {X : Type 0} (xs : List X) (at : ℕ) → at < length xs → (x : X) × (slice_get xs at ≡ Some x)
+found_below [] at lt = absurd (omega arith)
+found_below (x ∷ xs) zero lt = (x, refl)
+found_below (x ∷ xs) (suc at) lt = found_below xs at (omega arith)
 
 honest_event : (scene : SceneValue) (s : State) (e : Event) → Fits scene s → IsHonestEntry scene e → IsHonestEvent s e
 honest_event scene s (event.Begin actor start asked) fits honest =
@@ -111,7 +111,7 @@ honest_event scene s (event.Begin actor start asked) fits honest =
     let less : actor.0 - length s.core.threads < length s.world.clients = below_length s.world.clients (actor.0 - length s.core.threads) state found in
     let threads : length s.core.threads ≡ length (flat_map (λ app. app.threads) scene.apps) = fits.threads in
     let there : (c : Client) × (slice_get scene.clients (actor.0 - length (flat_map (λ app. app.threads) scene.apps)) ≡ Some c) =
-    is_there scene.clients (actor.0 - length (flat_map (λ app. app.threads) scene.apps)) (omega (arith, fits.clients)) in
+    found_below scene.clients (actor.0 - length (flat_map (λ app. app.threads) scene.apps)) (omega (arith, fits.clients)) in
     honest there.0 (omega arith) there.1
 honest_event scene s (event.Resume actor start) fits honest = tt
 honest_event scene s event.Device fits honest = tt

@@ -1,11 +1,11 @@
 -- Queue 0: the frames on their way to the driver, and the buffers that the device has.
-use Rattle.std.proofs.Common.{◌≡◌, ◌≢◌, ℕ, suc, ◌+◌, ◌-◌, ◌%◌, ◌<◌, ◌≤◌, true, leb, ltb, List, [], ◌∷◌, ◌++◌, Some, None, Ok, length, map, refl, sym, ap, subst, ◌∙◌, arith}
+use Rattle.std.proofs.Common.{◌≡◌, ◌≢◌, ℕ, suc, ◌+◌, ◌%◌, ◌<◌, ◌≤◌, true, leb, ltb, List, [], ◌∷◌, ◌++◌, Some, None, Ok, length, map, refl, sym, ap, subst, ◌∙◌, arith}
 use Rattle.std.specs.List.{filter, fold, range_with_len}
 use Rattle.std.proofs.lemmas.Bool.{lt-ltb, le-leb}
 use Rattle.std.proofs.lemmas.List.{length-append, map_push, length-map}
 use Rattle.virtqueue.specs.declared.queue.Queue.{Queue}
 use Rattle.virtqueue.specs.Chains.{chain}
-use Rattle.virtqueue.specs.Layout.{number_at, written_at, ahead, available_idx, available_head, available_idx_start, available_place, used_idx_start, used_place, used_pushed}
+use Rattle.virtqueue.specs.Layout.{number_at, written_at, ahead, available_idx, available_idx_start, available_place, used_idx_start, used_place, used_pushed}
 use Rattle.kernel_types.specs.Device.{queue_after}
 use Rattle.kernel_types.specs.Drains.{is_readable, frame_at}
 use Rattle.kernel_types.specs.GuestMemory.{UsedElement, read_at, ring, used_idx, used_element, new_elements, buffer_count, buffer_start, buffer_size, write_flag, given}
@@ -13,10 +13,10 @@ use Rattle.carry_laws.proofs.Changes.{IsLong, Wrote, wrote, Pushed, pushed}
 use Rattle.carry_laws.proofs.Chains.{buffer_part, no_chain, one_chain}
 use Rattle.carry_laws.proofs.DriverWrites.{described_kept}
 use Rattle.carry_laws.proofs.Giving.{IsReady, AreReady, AllGiven, all_given}
-use Rattle.carry_laws.proofs.Lists.{AllFrom, AllOf, from_kept, from_mapped, from_append, from_at, from_range, from_moved, times, times_append, times_none, once_more, apart_in_ring}
+use Rattle.carry_laws.proofs.Lists.{AllFrom, AllOf, from_kept, from_mapped, from_append, from_at, from_range, from_moved, times, times_append, times_none, once_more, apart_before}
 use Rattle.carry_laws.proofs.Outgoing.{Flight, places_of, same_available}
 use Rattle.carry_laws.proofs.Regions.{IsApart, read_written}
-use Rattle.carry_laws.proofs.Rings.{IsRingSize, SameQueue, same_number, queue_at, queue_goes_on, queue_is_queue, next_of, ahead_by, not_ahead, available_at, used_at}
+use Rattle.carry_laws.proofs.Rings.{IsRingSize, SameQueue, same_number, queue_at, queue_goes_on, queue_is_queue, next_of, ahead_by, not_ahead, used_at, head_at, step_over}
 use Rattle.carry_laws.proofs.Taking.{LeavesOther, new_are, seen_on, filter_whole}
 
 -- the used ring has the frame's buffer and length, and the buffer holds it
@@ -86,11 +86,6 @@ nothing_ready size memory queue seen_index flights o =
     let none : at + 0 ≡ at = omega arith in
     subst (λ (q : Queue). chain memory q ≡ Ok None) (sym o.queue_is) (no_chain memory (queue_at 0 size at) (o.ready_are.available_is ∙ ap (λ n. n % 65536) none))
 
-head_at : (size count place : ℕ) (memory : List ℕ) → IsRingSize size → number_at 2 (available_place (ring 0 size) count) memory ≡ place
-    → available_head memory (queue_at 0 size count) (count % 65536) ≡ place
-unfolding available_head
-head_at size count place memory is there = ap (λ at. number_at 2 at memory) (available_at 0 size count is) ∙ there
-
 pub next_ready : (size : ℕ) (memory : List ℕ) (queue : Queue) (seen_index place : ℕ) (rest : List ℕ) (flights : List Flight) → IsRingSize size
     → Incoming size memory queue seen_index (place ∷ rest) flights → chain memory queue ≡ Ok (Some (record { head = place; parts = buffer_part 0 place buffer_size ∷ [] }))
 next_ready size memory queue seen_index place rest flights is o =
@@ -105,7 +100,7 @@ next_ready size memory queue seen_index place rest flights is o =
     let is_far : ahead (at % 65536) (available_idx memory 0) ≡ suc (length rest) = ap (ahead (at % 65536)) o.ready_are.available_is ∙ ahead_by at (suc (length rest)) (omega arith) in
     omega arith in
     subst (λ (queue : Queue). chain memory queue ≡ Ok (Some (record { head = place; parts = buffer_part 0 place buffer_size ∷ [] }))) (sym o.queue_is)
-    (one_chain memory q place buffer_size write_flag more near (head_at size at place memory is first.offered) (omega arith) first.described (omega arith) (λ next. refl) (λ next. refl))
+    (one_chain memory q place buffer_size write_flag more near (head_at 0 size at place memory is first.offered) (omega arith) first.described (omega arith) (λ next. refl) (λ next. refl))
 
 -- what the device writes: the frame, then its element
 abbrev pub given_to : ℕ → List ℕ → Queue → List ℕ → List ℕ
@@ -167,7 +162,7 @@ given_by size memory queue seen_index place frame rest flights is short o =
       used_is = g.used_is ∙ ap (λ n. n % 65536) next;
       waiting = from_append (IsWaiting size after) o.seen flights (flight ∷ [])
           (from_kept (IsWaiting size memory) (IsWaiting size after) (λ other. other.place ≢ place) o.seen flights o.waiting (times_none (λ other. other.place) place flights none)
-          (λ k other from to apart there. waits_still size place at frame memory after k other is g low short apart (ring_apart size at k (omega arith) (omega arith)) there))
+          (λ k other from to apart there. waits_still size place at frame memory after k other is g low short apart (apart_before size k at (omega arith) (omega arith)) there))
           (record { id_is = g.id_is; len_is = g.len_is; written = g.written; below = low; short = short }, tt);
       ready_are = record {
         long = g.long;
@@ -192,15 +187,6 @@ given_by size memory queue seen_index place frame rest flights is short o =
       count = omega (arith, length-append flights (flight ∷ []));
     }
   where
-    step_over : (at len next : ℕ) → at + 1 ≡ next → at + suc len ≡ next + len
-    step_over at len next e = omega arith
-
-    up_to : (k at : ℕ) → k < at → k + (at - k) ≡ at
-    up_to k at lt = omega arith
-
-    ring_apart : (size at k : ℕ) → k < at → at < k + size → k % size ≢ at % size
-    ring_apart size at k below few e = apart_in_ring size k (at - k) (omega arith) (omega arith) (ap (λ n. n % size) (up_to k at below) ∙ sym e)
-
     waits_still : (size place at : ℕ) (frame memory after : List ℕ) (k : ℕ) (other : Flight) → IsRingSize size → Gave size place at frame memory after → place < buffer_count size
         → length frame ≤ buffer_size → other.place ≢ place → k % size ≢ at % size → IsWaiting size memory k other → IsWaiting size after k other
     waits_still size place at frame memory after k other is g low few apart slots there =

@@ -70,15 +70,19 @@ of_drop R (suc n) (x ∷ xs) all = of_drop R n xs all.1
 pub of_inserted : {X : Type 0} (R : X → Type 0) (at : ℕ) (x : X) (xs : List X) → R x → AllOf R xs → AllOf R (insert xs at x)
 of_inserted R at x xs one all = of_append R (take at xs) (x ∷ drop at xs) (of_take R at xs all) (one, of_drop R at xs all)
 
+pub map_self : (xs : List ℕ) → map (λ x. x) xs ≡ xs
+map_self [] = refl
+map_self (x ∷ xs) = ap (λ ys. x ∷ ys) (map_self xs)
+
 -- How often a number stands in a list.
 
-abbrev pub one_if : Bool → ℕ
-one_if true = 1
-one_if false = 0
+abbrev pub one_where : Bool → ℕ
+one_where true = 1
+one_where false = 0
 
 abbrev pub times : ℕ → List ℕ → ℕ
 times p [] = 0
-times p (x ∷ xs) = one_if (eqb x p) + times p xs
+times p (x ∷ xs) = one_where (eqb x p) + times p xs
 
 pub times_append : (p : ℕ) (xs ys : List ℕ) → times p (xs ++ ys) ≡ times p xs + times p ys
 times_append p [] ys = omega arith
@@ -88,16 +92,16 @@ eqb_self : (p : ℕ) → eqb p p ≡ true
 eqb_self p = eq-eqb p p refl
 
 pub once_more : (p : ℕ) (xs : List ℕ) → times p (p ∷ xs) ≡ 1 + times p xs
-once_more p xs = ap (λ b. one_if b + times p xs) (eqb_self p)
+once_more p xs = ap (λ b. one_where b + times p xs) (eqb_self p)
 
 -- a number that does not stand in a list is none of its items
 pub times_none : {X : Type 0} (place : X → ℕ) (p : ℕ) (xs : List X) → times p (map place xs) ≡ 0 → AllOf (λ x. place x ≢ p) xs
 times_none place p [] none = tt
 times_none place p (x ∷ xs) none =
-    let other : place x ≢ p = λ same. let here : one_if (eqb (place x) p) ≡ 1 = ap (λ n. one_if (eqb n p)) same ∙ ap one_if (eqb_self p) in omega arith in
+    let other : place x ≢ p = λ same. let here : one_where (eqb (place x) p) ≡ 1 = ap (λ n. one_where (eqb n p)) same ∙ ap one_where (eqb_self p) in omega arith in
     (other, times_none place p xs (omega arith))
 
-pub times_inserted : (p x at : ℕ) (xs : List ℕ) → times p (insert xs at x) ≡ one_if (eqb x p) + times p xs
+pub times_inserted : (p x at : ℕ) (xs : List ℕ) → times p (insert xs at x) ≡ one_where (eqb x p) + times p xs
 times_inserted p x at xs =
     let whole : times p (take at xs) + times p (drop at xs) ≡ times p xs = sym (times_append p (take at xs) (drop at xs)) ∙ ap (times p) (take-append-drop at xs) in
     let parts : times p (take at xs ++ x ∷ drop at xs) ≡ times p (take at xs) + times p (x ∷ drop at xs) = times_append p (take at xs) (x ∷ drop at xs) in
@@ -111,14 +115,14 @@ length_inserted x at xs =
 pub none_any : (p : ℕ) (xs : List ℕ) → times p xs ≡ 0 → list_any (λ other. eqb other p) xs ≡ false
 none_any p [] none = refl
 none_any p (x ∷ xs) none =
-    let P : Bool → Type 0 = λ b. one_if b ≡ 0 → (b || list_any (λ other. eqb other p) xs) ≡ false in
+    let P : Bool → Type 0 = λ b. one_where b ≡ 0 → (b || list_any (λ other. eqb other p) xs) ≡ false in
     let go : (b : Bool) → P b = λ b. elim b as (λ v. P v) [ true ↦ (λ one. absurd (omega arith)) | false ↦ (λ zero. none_any p xs (omega arith)) ] in
     go (eqb x p) (omega arith)
 
 -- Places in a ring of n.
 
 -- two places less than a round apart are two places
-pub apart_in_ring : (n at k : ℕ) → 0 < k → k < n → (at + k) % n ≢ at % n
+apart_in_ring : (n at k : ℕ) → 0 < k → k < n → (at + k) % n ≢ at % n
 apart_in_ring n at k some few same =
     let r : ℕ = at % n in
     let below : r < n = mod-lt at (omega arith) in
@@ -130,3 +134,9 @@ apart_in_ring n at k some few same =
           let less : (r + k) % n ≡ r + k - n = ap (λ j. j % n) left ∙ add-mod_right (r + k - n) n ∙ mod-eq_of_lt (omega arith) in
           omega arith
     ]
+
+-- so a place less than a round before another is another place
+pub apart_before : (n k at : ℕ) → k < at → at < k + n → k % n ≢ at % n
+apart_before n k at below few same =
+    let sum : k + (at - k) ≡ at = omega arith in
+    apart_in_ring n k (at - k) (omega arith) (omega arith) (ap (λ i. i % n) sum ∙ sym same)

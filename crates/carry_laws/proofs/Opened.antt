@@ -13,7 +13,7 @@ use Rattle.virtqueue.specs.Layout.{number_at, available_idx, available_idx_start
 use Rattle.carry_laws.proofs.Carrying.{Carrying}
 use Rattle.carry_laws.proofs.Changes.{IsLong}
 use Rattle.carry_laws.proofs.Giving.{AllGiven, all_given}
-use Rattle.carry_laws.proofs.Lists.{AllOf, one_if, times}
+use Rattle.carry_laws.proofs.Lists.{AllOf, one_where, times}
 use Rattle.carry_laws.proofs.Outgoing.{Outgoing, outgoing_kept}
 use Rattle.carry_laws.proofs.Rings.{IsRingSize}
 
@@ -116,7 +116,7 @@ once_each : (p at n : ℕ) → times p (range_with_len at n) ≤ 1
 once_each p at zero = omega arith
 once_each p at (suc n) =
     let rest : times p (range_with_len (at + 1) n) ≤ 1 = once_each p (at + 1) n in
-    let Q : Bool → Type 0 = λ b. eqb at p ≡ b → one_if b + times p (range_with_len (at + 1) n) ≤ 1 in
+    let Q : Bool → Type 0 = λ b. eqb at p ≡ b → one_where b + times p (range_with_len (at + 1) n) ≤ 1 in
     let go : (b : Bool) → Q b = λ b. elim b as (λ v. Q v) [
       | true ↦ (λ is. let same : at ≡ p = eqb-true at p is in let none : times p (range_with_len (at + 1) n) ≡ 0 = none_before p (at + 1) n (omega arith) in omega arith)
       | false ↦ (λ is. omega arith)

@@ -1,13 +1,13 @@
 -- Queue 1: the frames on their way to the device, and where each descriptor of the driver's is.
-use Rattle.std.proofs.Common.{◌≡◌, ◌≢◌, ℕ, ◌+◌, ◌-◌, ◌%◌, ◌<◌, ◌≤◌, List, [], ◌∷◌, ◌++◌, length, map, sym, ap, ◌∙◌, arith}
+use Rattle.std.proofs.Common.{◌≡◌, ◌≢◌, ℕ, ◌+◌, ◌%◌, ◌<◌, ◌≤◌, List, [], ◌∷◌, ◌++◌, length, map, sym, ap, ◌∙◌, arith}
 use Rattle.std.proofs.lemmas.List.{length-append, map_push}
 use Rattle.virtqueue.specs.declared.queue.Queue.{Queue}
 use Rattle.virtqueue.specs.Layout.{number_at, available_idx, available_idx_start, available_place, used_idx_start, used_place, next_index}
 use Rattle.kernel_types.specs.GuestMemory.{read_at, ring, used_idx, buffer_count, buffer_start, buffer_size, with_frame}
 use Rattle.carry_laws.proofs.Changes.{IsLong, Describes}
 use Rattle.carry_laws.proofs.DriverWrites.{Framed, framed, described_kept}
-use Rattle.carry_laws.proofs.Lists.{AllFrom, AllOf, from_kept, from_mapped, from_append, times, times_append, times_none, once_more, apart_in_ring}
-use Rattle.carry_laws.proofs.Rings.{IsRingSize, SameQueue, same_number, queue_at, next_of, available_at}
+use Rattle.carry_laws.proofs.Lists.{AllFrom, AllOf, from_kept, from_mapped, from_append, times, times_append, times_none, once_more}
+use Rattle.carry_laws.proofs.Rings.{IsRingSize, SameQueue, same_number, queue_at, next_of, available_at, slot_apart}
 
 -- a frame in the buffer of a descriptor
 pub record Flight : Type 0 where
@@ -81,15 +81,6 @@ outgoing_kept size before after queue seen_index free flights is same o =
 more_by_one : (at : ℕ) (flights : List Flight) (flight : Flight) → at + length flights + 1 ≡ at + length (flights ++ flight ∷ [])
 more_by_one at flights flight = omega (arith, length-append flights (flight ∷ []))
 
--- the slot that is written is none of those that are in use
-slots_apart : (size at k len : ℕ) (memory : List ℕ) → IsRingSize size → available_place (ring 1 size) (available_idx memory 1) ≡ available_place (ring 1 size) (at + len)
-    → k < at + len → at + len < k + size → available_idx memory 1 % size ≢ k % size
-slots_apart size at k len memory is slot below few same =
-    let sum : k + (at + len - k) ≡ at + len = omega arith in
-    let apart : (k + (at + len - k)) % size ≢ k % size = apart_in_ring size k (at + len - k) (omega arith) (omega arith) in
-    let there : (at + len) % size ≡ k % size = omega arith in
-    apart (ap (λ n. n % size) sum ∙ there)
-
 sent_apart : (size place : ℕ) (frame memory after : List ℕ) (k : ℕ) (other : Flight) → IsRingSize size → Framed size place frame memory after → place < buffer_count size
     → length frame ≤ buffer_size → other.place ≢ place → available_idx memory 1 % size ≢ k % size → IsOffered size memory k other → IsOffered size after k other
 sent_apart size place frame memory after k other is f low few apart slots there =
@@ -133,7 +124,7 @@ sends size place frame memory queue seen_index rest flights is long short o =
       used_is = f.numbers 2 (used_idx_start 1) (omega arith) (omega arith) (omega arith) (omega arith) ∙ o.used_is;
       flying = from_append (IsOffered size after) at flights (flight ∷ [])
           (from_kept (IsOffered size memory) (IsOffered size after) (λ other. other.place ≢ place) at flights o.flying (times_none (λ other. other.place) place flights none)
-          (λ k other first last apart there. sent_apart size place frame memory after k other is f low short apart (slots_apart size at k (length flights) memory is slot (omega arith) (omega arith)) there))
+          (λ k other first last apart there. sent_apart size place frame memory after k other is f low short apart (slot_apart 1 size at k (length flights) memory is o.available_is (omega arith) (omega arith)) there))
           (record { offered = ap (λ n. number_at 2 n after) (sym slot) ∙ f.offered; described = f.described; written = f.written; below = low; short = short }, tt);
       coming = from_mapped (IsBack size memory) (IsBack size after) o.seen o.back o.coming
           (λ k back first last there. record { used = f.numbers 4 (used_place (ring 1 size) k) (omega arith) (omega arith) (omega arith) (omega arith) ∙ there.used; below = there.below });

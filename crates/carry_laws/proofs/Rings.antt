@@ -1,9 +1,10 @@
 -- The rings of the two queues: what stands in them, and how their indexes go round.
-use Rattle.std.proofs.Common.{◌≡◌, ◌≢◌, ℕ, ◌+◌, ◌*◌, ◌%◌, ◌<◌, ◌≤◌, List, sym, ap, ◌∙◌, arith}
+use Rattle.std.proofs.Common.{◌≡◌, ◌≢◌, ℕ, suc, ◌+◌, ◌*◌, ◌%◌, ◌<◌, ◌≤◌, List, sym, ap, ◌∙◌, arith}
 use Rattle.virtqueue.specs.declared.queue.Queue.{Queue}
-use Rattle.virtqueue.specs.Layout.{IsQueue, number_at, ahead, next_index, available_place, used_place}
+use Rattle.virtqueue.specs.Layout.{IsQueue, number_at, ahead, next_index, available_idx, available_head, available_place, used_place}
 use Rattle.kernel_types.specs.GuestMemory.{read_at, ring}
 use Rattle.kernel_types.specs.Device.{queue_after}
+use Rattle.carry_laws.proofs.Lists.{apart_before}
 use Rattle.carry_laws.proofs.Regions.{number_read}
 
 -- the sizes of rings: an index that begins anew at 65,536 goes on at the right place
@@ -39,6 +40,22 @@ ring_is_queue index size two is = record { index = two; low = is.low; high = is.
 
 pub queue_is_queue : (index size count : ℕ) → index < 2 → IsRingSize size → IsQueue (queue_at index size count)
 queue_is_queue index size count two is = record { index = two; low = is.low; high = is.high }
+
+-- the index after one more element
+pub step_over : (at len next : ℕ) → at + 1 ≡ next → at + suc len ≡ next + len
+step_over at len next e = omega arith
+
+-- the head that the device finds at its position
+pub head_at : (index size count place : ℕ) (memory : List ℕ) → IsRingSize size → number_at 2 (available_place (ring index size) count) memory ≡ place
+    → available_head memory (queue_at index size count) (count % 65536) ≡ place
+unfolding available_head
+head_at index size count place memory is there = ap (λ at. number_at 2 at memory) (available_at index size count is) ∙ there
+
+-- the slot that the driver writes next is none of those that are in use
+pub slot_apart : (index size at k len : ℕ) (memory : List ℕ) → IsRingSize size → available_idx memory index ≡ (at + len) % 65536
+    → k < at + len → at + len < k + size → available_idx memory index % size ≢ k % size
+slot_apart index size at k len memory is idx below few same =
+    apart_before size k (at + len) below few (sym same ∙ ap (λ n. n % size) idx ∙ is.wraps (at + len))
 
 -- nothing changed in the rings and the buffers of one queue
 pub record SameQueue (index : ℕ) (before after : List ℕ) : Type 0 where

@@ -1,32 +1,27 @@
 -- Queue 1: what the device finds and takes, and what the driver sees of it.
-use Rattle.std.proofs.Common.{◌≡◌, ◌≢◌, ℕ, suc, ◌+◌, ◌-◌, ◌%◌, ◌<◌, ◌≤◌, Bool, true, false, cond, eqb, ltb, List, [], ◌∷◌, ◌++◌, Some, None, Ok, length, map, refl, sym, ap, subst, ◌∙◌, arith}
+use Rattle.std.proofs.Common.{◌≡◌, ◌≢◌, ℕ, suc, ◌+◌, ◌%◌, ◌<◌, ◌≤◌, Bool, true, false, cond, eqb, ltb, List, [], ◌∷◌, ◌++◌, Some, None, Ok, length, map, refl, sym, ap, subst, ◌∙◌, arith}
 use Rattle.std.specs.List.{filter, fold, insert, list_any, position_or_len, range_with_len}
 use Rattle.std.proofs.lemmas.Bool.{lt-ltb}
 use Rattle.std.proofs.lemmas.List.{length-append}
 use Rattle.virtqueue.specs.declared.queue.Queue.{Queue}
 use Rattle.virtqueue.specs.Bytes.{bytes_at}
 use Rattle.virtqueue.specs.Chains.{chain}
-use Rattle.virtqueue.specs.Layout.{number_at, ahead, available_idx, available_head, available_idx_start, available_place, used_place, used_pushed}
+use Rattle.virtqueue.specs.Layout.{number_at, ahead, available_idx, available_idx_start, available_place, used_place, used_pushed}
 use Rattle.kernel_types.specs.Device.{queue_after}
 use Rattle.kernel_types.specs.Drains.{with_free}
 use Rattle.kernel_types.specs.GuestMemory.{UsedElement, ring, used_idx, used_element, new_elements, elements_after, buffer_count, buffer_start, buffer_size}
 use Rattle.carry_laws.proofs.Changes.{IsLong, Pushed, pushed}
 use Rattle.carry_laws.proofs.Chains.{buffer_part, no_chain, one_chain, one_read, not_below}
 use Rattle.carry_laws.proofs.DriverWrites.{described_kept}
-use Rattle.carry_laws.proofs.Lists.{AllFrom, AllOf, one_if, from_mapped, from_append, from_at, from_range, from_moved, from_of, of_mapped, of_inserted, times, times_append, times_inserted, length_inserted, none_any, once_more, apart_in_ring}
+use Rattle.carry_laws.proofs.Lists.{AllFrom, AllOf, one_where, from_mapped, from_append, from_at, from_range, from_moved, from_of, of_mapped, of_inserted, times, times_append, times_inserted, length_inserted, none_any, once_more, apart_before, map_self}
 use Rattle.carry_laws.proofs.Outgoing.{Flight, IsOffered, IsBack, Outgoing, places_of, same_available}
-use Rattle.carry_laws.proofs.Rings.{IsRingSize, SameQueue, queue_at, queue_goes_on, queue_is_queue, next_of, ahead_by, not_ahead, available_at, used_at}
+use Rattle.carry_laws.proofs.Rings.{IsRingSize, SameQueue, queue_at, queue_goes_on, queue_is_queue, next_of, ahead_by, not_ahead, used_at, head_at, step_over}
 
 pub nothing_out : (size : ℕ) (memory : List ℕ) (queue : Queue) (seen_index : ℕ) (free : List ℕ) → Outgoing size memory queue seen_index free [] → chain memory queue ≡ Ok None
 nothing_out size memory queue seen_index free o =
     let at : ℕ = o.seen + length o.back in
     let none : at + 0 ≡ at = omega arith in
     subst (λ (q : Queue). chain memory q ≡ Ok None) (sym o.queue_is) (no_chain memory (queue_at 1 size at) (o.available_is ∙ ap (λ n. n % 65536) none))
-
-head_at : (size count place : ℕ) (memory : List ℕ) → IsRingSize size → number_at 2 (available_place (ring 1 size) count) memory ≡ place
-    → available_head memory (queue_at 1 size count) (count % 65536) ≡ place
-unfolding available_head
-head_at size count place memory is there = ap (λ at. number_at 2 at memory) (available_at 1 size count is) ∙ there
 
 pub next_out : (size : ℕ) (memory : List ℕ) (queue : Queue) (seen_index : ℕ) (free : List ℕ) (flight : Flight) (flights : List Flight) → IsRingSize size
     → Outgoing size memory queue seen_index free (flight ∷ flights)
@@ -44,7 +39,7 @@ next_out size memory queue seen_index free flight flights is o =
     let is_far : ahead (at % 65536) (available_idx memory 1) ≡ suc (length flights) = ap (ahead (at % 65536)) o.available_is ∙ ahead_by at (suc (length flights)) (omega arith) in
     omega arith in
     subst (λ (queue : Queue). chain memory queue ≡ Ok (Some (record { head = flight.place; parts = buffer_part 1 flight.place (length flight.bytes) ∷ [] }))) (sym o.queue_is)
-    (one_chain memory q flight.place (length flight.bytes) 0 more near (head_at size at flight.place memory is first.offered) (omega arith) first.described (omega arith)
+    (one_chain memory q flight.place (length flight.bytes) 0 more near (head_at 1 size at flight.place memory is first.offered) (omega arith) first.described (omega arith)
     (λ next. refl) (λ next. refl))
 
 pub next_bytes : (size at : ℕ) (memory : List ℕ) (flight : Flight) → IsLong memory → IsOffered size memory at flight
@@ -54,10 +49,10 @@ next_bytes size at memory flight long there =
     let short : length flight.bytes ≤ buffer_size = there.short in
     one_read (buffer_part 1 flight.place (length flight.bytes)) memory (omega arith) ∙ there.written
 
-taken_by : (size : ℕ) (memory : List ℕ) (seen_index : ℕ) (free : List ℕ) (flight : Flight) (flights : List Flight) (queue : Queue) → IsRingSize size → IsLong memory
-    → (o : Outgoing size memory queue seen_index free (flight ∷ flights)) → queue ≡ queue_at 1 size (o.seen + length o.back)
+taken_by : (size : ℕ) (memory : List ℕ) (queue : Queue) (seen_index : ℕ) (free : List ℕ) (flight : Flight) (flights : List Flight) → IsRingSize size → IsLong memory
+    → (o : Outgoing size memory queue seen_index free (flight ∷ flights))
     → Outgoing size (used_pushed memory (queue_at 1 size (o.seen + length o.back)) flight.place 0) (queue_at 1 size (o.seen + length o.back + 1)) seen_index free flights
-taken_by size memory seen_index free flight flights queue is long o same =
+taken_by size memory queue seen_index free flight flights is long o =
     let at : ℕ = o.seen + length o.back in
     let q : Queue = queue_at 1 size at in
     let after : List ℕ = used_pushed memory q flight.place 0 in
@@ -91,7 +86,7 @@ taken_by size memory seen_index free flight flights queue is long o same =
           }));
       coming = from_append (IsBack size after) o.seen o.back (flight.place ∷ [])
           (from_mapped (IsBack size memory) (IsBack size after) o.seen o.back o.coming
-          (λ k back first last there. let other : k % size ≢ at % size = λ e. apart_in_ring size k (at - k) (omega arith) (omega arith) (ap (λ n. n % size) (up_to k at (omega arith)) ∙ sym e) in
+          (λ k back first last there. let other : k % size ≢ at % size = apart_before size k at (omega arith) (omega arith) in
           let in_ring : k % size < size = omega (arith, is.low) in
           record { used = p.numbers 4 (used_place (ring 1 size) k) (omega arith) (omega arith) ∙ there.used; below = there.below }))
           (record { used = ap (λ n. number_at 4 n after) (sym slot) ∙ p.id_is; below = low }, tt);
@@ -102,12 +97,6 @@ taken_by size memory seen_index free flight flights queue is long o same =
           omega arith;
       count = omega arith;
     }
-  where
-    step_over : (at len next : ℕ) → at + 1 ≡ next → at + suc len ≡ next + len
-    step_over at len next e = omega arith
-
-    up_to : (k at : ℕ) → k < at → k + (at - k) ≡ at
-    up_to k at lt = omega arith
 
 -- the device takes the first frame
 pub takes : (size : ℕ) (memory : List ℕ) (queue : Queue) (seen_index : ℕ) (free : List ℕ) (flight : Flight) (flights : List Flight) → IsRingSize size → IsLong memory
@@ -117,7 +106,7 @@ takes size memory queue seen_index free flight flights is long o =
     let q : Queue = queue_at 1 size at in
     let moved : Outgoing size (used_pushed memory q flight.place 0) (queue_after q) seen_index free flights =
     subst (λ (n : Queue). Outgoing size (used_pushed memory q flight.place 0) n seen_index free flights) (sym (queue_goes_on 1 size at))
-    (taken_by size memory seen_index free flight flights queue is long o o.queue_is) in
+    (taken_by size memory queue seen_index free flight flights is long o) in
     subst (λ (n : Queue). Outgoing size (used_pushed memory n flight.place 0) (queue_after n) seen_index free flights) (sym o.queue_is) moved
 
 -- The driver sees what came back.
@@ -137,10 +126,6 @@ seen_on seen k = omega arith
 map_map : {X Y Z : Type 0} (f : X → Y) (g : Y → Z) (xs : List X) → map g (map f xs) ≡ map (λ x. g (f x)) xs
 map_map f g [] = refl
 map_map f g (x ∷ xs) = ap (λ ys. g (f x) ∷ ys) (map_map f g xs)
-
-map_self : (xs : List ℕ) → map (λ x. x) xs ≡ xs
-map_self [] = refl
-map_self (x ∷ xs) = ap (λ ys. x ∷ ys) (map_self xs)
 
 pub filter_whole : {X : Type 0} (p : X → Bool) (xs : List X) → AllOf (λ x. p x ≡ true) xs → filter p xs ≡ xs
 filter_whole p [] all = refl
@@ -175,7 +160,7 @@ freed size (place ∷ back) free low lowest distinct =
     let at : ℕ = position_or_len (λ other. ltb place other) free in
     let next : List ℕ = insert free at place in
     let none : times place free ≡ 0 = omega (arith, distinct place, once_more place back) in
-    let more : (p : ℕ) → times p next ≡ one_if (eqb place p) + times p free = λ p. times_inserted p place at free in
+    let more : (p : ℕ) → times p next ≡ one_where (eqb place p) + times p free = λ p. times_inserted p place at free in
     let rest : Freed size back next (fold with_free next back) =
     freed size back next low.1 (of_inserted (λ place. place < buffer_count size) at place free low.0 lowest) (λ p. omega (arith, distinct p, more p)) in
     let whole : Freed size (place ∷ back) free (fold with_free next back) = record {
