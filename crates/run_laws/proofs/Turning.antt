@@ -1,5 +1,6 @@
 -- Turns from a run in which every thread stands at its script.
-use Rattle.std.proofs.Common.{◌≡◌, ℕ, zero, suc, Bool, true, false, cond, List, [], ◌∷◌, ◌++◌, map, Option, Some, None, refl, ap, sym, ◌∙◌, subst, append-nil}
+use Rattle.std.proofs.Common.{◌≡◌, ℕ, Bool, true, false, cond, List, [], ◌++◌, map, Option, Some, None, refl, ap, sym, ◌∙◌, subst, append-nil}
+use Rattle.std.proofs.lemmas.Option.{slice_get-map}
 use Rattle.std.specs.Prelude.{slice_get, ◌&&◌, not}
 use Rattle.std.specs.Option.{option_map, is_some}
 use Rattle.kernel_values.specs.declared.call.Call.{Call}
@@ -39,17 +40,12 @@ pub record AtScripts (scripts : List (List Command)) (run : Run) : Type 0 where
 
 -- The status of an actor is its thread's.
 
-mapped_get : {X Y : Type 0} (f : X → Y) (xs : List X) (k : ℕ) → slice_get (map f xs) k ≡ option_map f (slice_get xs k)
-mapped_get f [] k = refl
-mapped_get f (x ∷ xs) zero = refl
-mapped_get f (x ∷ xs) (suc k) = mapped_get f xs k
-
 status_is : (s : State) (k : ℕ) → s.world.clients ≡ [] → status_at s k ≡ option_map (λ (t : Thread). status_of t.activity) (slice_get s.core.threads k)
 unfolding statuses
 status_is s k alone =
     let f : Thread → ActorStatus = λ t. status_of t.activity in
     ap (λ (clients : List ClientState). slice_get (map f s.core.threads ++ map (λ client. client_status client.activity) clients) k) alone
-    ∙ (ap (λ xs. slice_get xs k) (append-nil (map f s.core.threads)) ∙ mapped_get f s.core.threads k)
+    ∙ (ap (λ xs. slice_get xs k) (append-nil (map f s.core.threads)) ∙ slice_get-map f s.core.threads k)
 
 -- how an actor can take a turn: it runs, or the end of its wait is there
 pub data Taking (s : State) (k : ℕ) : Type 0 where
