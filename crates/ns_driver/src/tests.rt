@@ -1,4 +1,4 @@
-// A request for a connection and two messages over it, with a device that is played by hand: the frames byte for byte.
+// A request for a connection and messages over it, with a device that is played by hand: the frames byte for byte.
 ghost use Rattle.std.specs.Prelude.{◌≡◌, ◌+◌, ◌<◌, ◌≤◌, Some, None, IfOk, length, vec_len};
 ghost use Rattle.kernel_types.specs.GuestMemory.{blank_memory};
 ghost use Rattle.ns_driver.specs.Standing.{wait_of};
@@ -43,17 +43,18 @@ fn resume(driver: &mut Driver, mem: &mut [u8], client: u32) -> Result<Option<Ans
     Ok(Some(driver.act(mem, client, None)?))
 }
 
-/// The device puts a frame into the first buffer of queue 0.
-fn deliver(mem: &mut [u8], q: &mut Queue, frame: &[u8])
+/// The device puts a frame into a buffer of queue 0, and says so in the used ring.
+fn deliver(mem: &mut [u8], q: &mut Queue, place: u16, frame: &[u8])
     requires memory { length mem.old ≡ MEMORY_SIZE }
-    requires queue { q.old.index ≡ 0 }
-    requires places { q.old.n ≡ 16 }
+    requires index { q.old.index ≡ 0 }
+    requires n { q.old.n ≡ 16 }
+    requires place { place < 16 }
     requires frame { length frame.now ≤ 64 }
     ensures index { q.new.index ≡ 0 }
-    ensures places { q.new.n ≡ 16 }
+    ensures n { q.new.n ≡ 16 }
 {
-    write(mem, 0x40000, frame);
-    push_used(mem, q, 0, frame.len() as u32);
+    write(mem, 0x40000 + 0x2000 * place as usize, frame);
+    push_used(mem, q, place, frame.len() as u32);
 }
 
 const REQUEST: [u8; 24] = [
@@ -67,11 +68,22 @@ const ANSWER: [u8; 44] = [
 
 const SENT: [u8; 18] = [0, 4, 0, 0, 232, 3, 0, 0, 0, 0, 0, 0, 2, 0, 0, 0, 65, 66];
 
-const CAME: [u8; 17] = [232, 3, 0, 0, 0, 4, 0, 0, 0, 0, 0, 0, 1, 0, 0, 0, 67];
-
 const LEFT: [u8; 28] = [
     0, 4, 0, 0, 53, 0, 0, 0, 0, 0, 0, 0, 12, 0, 0, 0, 5, 0, 0, 0, 4, 0, 0, 0, 232, 3, 0, 0,
 ];
+
+/// A request for a connection: the frame's header, the message's, and a path with zeros behind it.
+fn request() -> [u8; 280] {
+    let mut frame = [0u8; 280];
+    frame[0..24].copy_from_slice(&REQUEST);
+    frame[24..44].copy_from_slice(b"com.example.echo.srv");
+    frame
+}
+
+/// A frame of one byte from the device.
+fn came(byte: u8) -> [u8; 17] {
+    [232, 3, 0, 0, 0, 4, 0, 0, 0, 0, 0, 0, 1, 0, 0, 0, byte]
+}
 
 #[test]
 fn the_opening_gives_each_buffer(rt: HostRuntime) -> Result<(), Fail> {
@@ -86,63 +98,63 @@ fn the_opening_gives_each_buffer(rt: HostRuntime) -> Result<(), Fail> {
     Ok(())
 }
 
-/// A driver with two clients, of which the first asked for a connection; and the device's side of queue 0.
-fn asking(alloc: Global, mem: &mut [u8]) -> Result<(Driver, Queue), NoMemory>
+/// A driver with two clients, of which the first asked for a connection.
+fn asking(alloc: Global, mem: &mut [u8]) -> Result<Driver, NoMemory>
     requires zeros { mem.old ≡ blank_memory }
     requires long { length mem.old ≡ MEMORY_SIZE }
-    ensures clients { IfOk result (λ made. length made.0.waits ≡ 2) }
-    ensures index { IfOk result (λ made. made.1.index ≡ 0) }
-    ensures places { IfOk result (λ made. made.1.n ≡ 16) }
+    ensures { IfOk result (λ driver. length driver.waits ≡ 2) }
 {
     let mut driver = Driver::new(alloc, mem, 16, 2)?;
     let path = Items::from_slice(alloc, b"com.example.echo.srv")?;
     let _waits = call(&mut driver, mem, 0, Call::NsConnect { path })?;
-    Ok((driver, ring(0, 16)))
+    Ok(driver)
 }
 
 #[test]
-fn a_request_goes_out(rt: HostRuntime) -> Result<(), Fail> {
+fn an_answer_ends_the_wait_of_a_request(rt: HostRuntime) -> Result<(), Fail> {
     let mut mem = blank(rt.alloc(), MEMORY_SIZE)?;
-    let (driver, _q) = asking(rt.alloc(), &mut mem)?;
-    assert!(rt; driver.wait_of(0).is_some());
-    assert_eq!(rt; &mem[0x80000..0x80018], REQUEST.as_slice());
-    assert_eq!(rt; &mem[0x80018..0x8002c], b"com.example.echo.srv".as_slice());
-    Ok(())
-}
-
-#[test]
-fn an_answer_ends_the_wait(rt: HostRuntime) -> Result<(), Fail> {
-    let mut mem = blank(rt.alloc(), MEMORY_SIZE)?;
-    let (mut driver, mut q) = asking(rt.alloc(), &mut mem)?;
-    let early = driver.movable(&mem, 0);
-    deliver(&mut mem, &mut q, &ANSWER);
-    let late = driver.movable(&mem, 0);
+    let mut driver = asking(rt.alloc(), &mut mem)?;
+    assert_eq!(rt; &mem[0x80000..0x80118], request().as_slice());
+    assert!(rt; !driver.movable(&mem, 0));
+    deliver(&mut mem, &mut ring(0, 16), 0, &ANSWER);
+    assert!(rt; driver.movable(&mem, 0));
     let answered = resume(&mut driver, &mut mem, 0)?;
-    assert!(rt; !early);
-    assert!(rt; late);
     assert!(rt; matches!(answered, Some(Answer::Gives(Reply::Conn(1024)))));
     Ok(())
 }
 
-/// The same, once the connection is there.
+#[test]
+fn an_index_too_far_ahead_counts_as_seen(rt: HostRuntime) -> Result<(), Fail> {
+    let mut mem = blank(rt.alloc(), MEMORY_SIZE)?;
+    let mut driver = asking(rt.alloc(), &mut mem)?;
+    let mut q = Queue {
+        index: 0,
+        n: 16,
+        position: 0,
+        used: 16,
+    };
+    deliver(&mut mem, &mut q, 0, &ANSWER);
+    let unseen = resume(&mut driver, &mut mem, 0)?;
+    deliver(&mut mem, &mut q, 0, &ANSWER);
+    let seen = resume(&mut driver, &mut mem, 0)?;
+    assert!(rt; matches!(unseen, Some(Answer::Waits)));
+    assert!(rt; matches!(seen, Some(Answer::Gives(Reply::Conn(1024)))));
+    Ok(())
+}
+
+/// The same, once the connection is there; and the device's side of queue 0.
 fn connected(alloc: Global, mem: &mut [u8]) -> Result<(Driver, Queue), NoMemory>
     requires zeros { mem.old ≡ blank_memory }
     requires long { length mem.old ≡ MEMORY_SIZE }
     ensures clients { IfOk result (λ made. length made.0.waits ≡ 2) }
     ensures index { IfOk result (λ made. made.1.index ≡ 0) }
-    ensures places { IfOk result (λ made. made.1.n ≡ 16) }
+    ensures n { IfOk result (λ made. made.1.n ≡ 16) }
 {
-    let (mut driver, mut q) = asking(alloc, mem)?;
-    deliver(mem, &mut q, &ANSWER);
+    let mut driver = asking(alloc, mem)?;
+    let mut q = ring(0, 16);
+    deliver(mem, &mut q, 0, &ANSWER);
     let _answered = resume(&mut driver, mem, 0)?;
     Ok((driver, q))
-}
-
-fn are_bytes(answer: &Option<Answer>, wanted: &[u8]) -> bool {
-    match answer {
-        Some(Answer::Gives(Reply::Bytes { bytes, .. })) => bytes.as_slice() == wanted,
-        _ => false,
-    }
 }
 
 #[test]
@@ -157,49 +169,59 @@ fn bytes_go_out(rt: HostRuntime) -> Result<(), Fail> {
     Ok(())
 }
 
-#[test]
-fn bytes_come(rt: HostRuntime) -> Result<(), Fail> {
-    let alloc = rt.alloc();
-    let mut mem = blank(alloc, MEMORY_SIZE)?;
-    let (mut driver, mut q) = connected(alloc, &mut mem)?;
+/// A receive of the first client.
+fn receive(driver: &mut Driver, mem: &mut [u8]) -> Result<Answer, NoMemory>
+    requires memory { length mem.old ≡ MEMORY_SIZE }
+    requires clients { length driver.old.waits ≡ 2 }
+    ensures { length driver.new.waits ≡ 2 }
+{
+    let conn = 1024;
     let timeout = Timeout::Forever;
-    let waits = call(
-        &mut driver,
-        &mut mem,
-        0,
-        Call::NsRecv {
-            conn: 1024,
-            timeout,
-        },
-    )?;
-    deliver(&mut mem, &mut q, &CAME);
-    let came = resume(&mut driver, &mut mem, 0)?;
-    assert!(rt; matches!(waits, Answer::Waits));
-    assert!(rt; are_bytes(&came, b"C"));
+    call(driver, mem, 0, Call::NsRecv { conn, timeout })
+}
+
+fn are_bytes(answer: &Answer, wanted: &[u8]) -> bool {
+    match answer {
+        Answer::Gives(Reply::Bytes { bytes, .. }) => bytes.as_slice() == wanted,
+        _ => false,
+    }
+}
+
+#[test]
+fn the_oldest_bytes_come_first(rt: HostRuntime) -> Result<(), Fail> {
+    let mut mem = blank(rt.alloc(), MEMORY_SIZE)?;
+    let (mut driver, mut q) = connected(rt.alloc(), &mut mem)?;
+    let none = receive(&mut driver, &mut mem)?;
+    deliver(&mut mem, &mut q, 1, &came(67));
+    deliver(&mut mem, &mut q, 2, &came(68));
+    let first = receive(&mut driver, &mut mem)?;
+    let second = receive(&mut driver, &mut mem)?;
+    assert!(rt; matches!(none, Answer::Waits));
+    assert!(rt; are_bytes(&first, b"C"));
+    assert!(rt; are_bytes(&second, b"D"));
     Ok(())
+}
+
+/// The end of a connection by a client.
+fn close(driver: &mut Driver, mem: &mut [u8], client: u32) -> Result<Answer, NoMemory>
+    requires memory { length mem.old ≡ MEMORY_SIZE }
+    requires client { client < length driver.old.waits }
+    ensures { length driver.new.waits ≡ length driver.old.waits }
+{
+    call(driver, mem, client, Call::NsClose { conn: 1024 })
 }
 
 #[test]
 fn only_its_client_closes_a_connection(rt: HostRuntime) -> Result<(), Fail> {
-    let alloc = rt.alloc();
-    let mut mem = blank(alloc, MEMORY_SIZE)?;
-    let (mut driver, _q) = connected(alloc, &mut mem)?;
-    let other = call(&mut driver, &mut mem, 1, Call::NsClose { conn: 1024 })?;
-    assert!(rt; matches!(other, Answer::Refuses(Errno::BadHandle)));
+    let mut mem = blank(rt.alloc(), MEMORY_SIZE)?;
+    let (mut driver, _q) = connected(rt.alloc(), &mut mem)?;
+    let other = close(&mut driver, &mut mem, 1)?;
     push_used(&mut mem, &mut ring(1, 16), 0, 0);
-    let closed = call(&mut driver, &mut mem, 0, Call::NsClose { conn: 1024 })?;
+    let closed = close(&mut driver, &mut mem, 0)?;
+    let over = close(&mut driver, &mut mem, 0)?;
+    assert!(rt; matches!(other, Answer::Refuses(Errno::BadHandle)));
     assert!(rt; matches!(closed, Answer::Gives(Reply::Done)));
-    assert_eq!(rt; &mem[0x80000..0x8001c], LEFT.as_slice());
-    let timeout = Timeout::Millis(0);
-    let over = call(
-        &mut driver,
-        &mut mem,
-        0,
-        Call::NsRecv {
-            conn: 1024,
-            timeout,
-        },
-    )?;
     assert!(rt; matches!(over, Answer::Refuses(Errno::ChannelClosed)));
+    assert_eq!(rt; &mem[0x80000..0x8001c], LEFT.as_slice());
     Ok(())
 }

@@ -15,6 +15,7 @@ use crate::drain::{frame_at, is_readable};
 use crate::inboxes::{is_asked, is_closed};
 use crate::memory::ring;
 use crate::used::{Element, new_count, used_element};
+use kernel_values::{ClientWaitOn, Connection, ConnectionStatus, Driver as DriverState};
 use tipc_proto::{Control, control_of, frame_of};
 use virtqueue::MEMORY_SIZE;
 
