@@ -1,8 +1,8 @@
 -- A call on a drained world, and the answer of a wait there, by those on the driver alone: no memory is read, one frame at most is
 -- written, and the driver stays sound.
-use Rattle.std.proofs.Common.{◌≡◌, ℕ, ◌<◌, ◌==◌, Bool, true, false, cond, List, [], ◌∷◌, length, min, ltb, not, Option, Some, None, refl, sym, ◌∙◌, ap, arith, tests}
-use Rattle.std.specs.List.{All, find}
-use Rattle.std.specs.Option.{unwrap_or, option_map}
+use Rattle.std.proofs.Common.{◌≡◌, ℕ, ◌<◌, ◌==◌, Bool, true, false, cond, List, [], ◌∷◌, length, min, ltb, not, Option, Some, None, refl, sym, ◌∙◌, ap}
+use Rattle.std.specs.List.{find}
+use Rattle.std.specs.Option.{unwrap_or}
 use Rattle.std.proofs.lemmas.Bool.{eqb-true}
 use Rattle.std.proofs.lemmas.List.Elements.{All-tail}
 use Rattle.std.proofs.lemmas.List.Folds.{find_at}
@@ -13,18 +13,15 @@ use Rattle.kernel_values.specs.declared.call.Call.TheVariants as call
 use Rattle.kernel_values.specs.declared.call.Timeout.{Timeout}
 use Rattle.kernel_values.specs.declared.errno.Errno.TheVariants as errno
 use Rattle.kernel_values.specs.declared.reply.Answer.{Answer}
-use Rattle.kernel_values.specs.declared.reply.Answer.TheVariants as answer
 use Rattle.kernel_types.specs.Waits.{is_zero_timeout, deadline_of}
 use Rattle.kernel_values.specs.declared.world.ClientState.{ClientState}
 use Rattle.kernel_values.specs.declared.world.ClientWaitOn.{ClientWaitOn}
 use Rattle.kernel_values.specs.declared.world.ClientWaitOn.TheVariants as wait_on
 use Rattle.kernel_values.specs.declared.world.Connection.{Connection}
-use Rattle.kernel_values.specs.declared.world.ConnectionStatus.{ConnectionStatus}
 use Rattle.kernel_values.specs.declared.world.ConnectionStatus.TheVariants as connection_status
 use Rattle.kernel_values.specs.declared.world.Device.{Device}
-use Rattle.kernel_values.specs.declared.world.Driver.{Driver}
 use Rattle.kernel_values.specs.declared.world.World.{World}
-use Rattle.kernel_types.specs.Clients.{Acted, ns_refuses, ns_waits, send_by, send_frame, next_address, asks, counts, shuts, send_limit, send_on, send_by_status, send_established, own_connection, owned_by, close_on, close_by_status, receive_on, receive_or_wait, receive_from, is_asked, is_closed, connect_answer, connect_answer_of, receive_answer, ns_connect_call, ns_send_call, ns_recv_call, ns_close_call, answer_of_wait}
+use Rattle.kernel_types.specs.Clients.{Acted, ns_refuses, ns_waits, send_by, send_frame, next_address, asks, counts, shuts, send_limit, send_on, send_by_status, own_connection, owned_by, close_on, close_by_status, receive_on, receive_or_wait, receive_from, is_asked, is_closed, connect_answer, connect_answer_of, receive_answer, ns_connect_call, ns_send_call, ns_recv_call, ns_close_call, answer_of_wait}
 use Rattle.kernel_types.specs.Drains.{connection_of}
 use Rattle.kernel_types.specs.Sending.{request_frame, leave_frame, frame}
 use Rattle.ns_driver.specs.Standing.{IsSound}

@@ -14,7 +14,6 @@ use Rattle.kernel_types.specs.Objects.{set_if}
 use Rattle.kernel_values.specs.declared.errno.Errno.TheVariants as errno
 use Rattle.kernel_values.specs.declared.world.ClientWaitOn.TheVariants as wait_on
 use Rattle.kernel_values.specs.declared.world.Connection.{Connection}
-use Rattle.kernel_values.specs.declared.world.ConnectionStatus.{ConnectionStatus}
 use Rattle.kernel_values.specs.declared.world.ConnectionStatus.TheVariants as connection_status
 use Rattle.kernel_values.specs.declared.world.Driver.{Driver}
 use Rattle.kernel_values.specs.declared.world.World.{World}

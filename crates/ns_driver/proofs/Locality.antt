@@ -1,22 +1,19 @@
 -- The laws of calls and waits in any world, from those on the driver alone.
-use Rattle.std.proofs.Common.{◌≡◌, ℕ, ◌+◌, ◌||◌, Bool, true, false, cond, List, [], ◌∷◌, length, Option, Some, None, refl, sym, ◌∙◌, ap}
-use Rattle.std.specs.Option.{unwrap_or, option_map, is_some}
+use Rattle.std.proofs.Common.{◌≡◌, ℕ, ◌+◌, ◌||◌, true, false, cond, [], ◌∷◌, length, Option, Some, None, refl, sym, ◌∙◌, ap}
+use Rattle.std.specs.Option.{unwrap_or, is_some}
 use Rattle.kernel_values.specs.declared.call.Call.{Call}
 use Rattle.kernel_values.specs.declared.call.Call.TheVariants as call
 use Rattle.kernel_values.specs.declared.errno.Errno.TheVariants as errno
-use Rattle.kernel_values.specs.declared.reply.Answer.{Answer}
 use Rattle.kernel_types.specs.Waits.{is_due}
-use Rattle.kernel_values.specs.declared.world.ClientState.{ClientState}
 use Rattle.kernel_values.specs.declared.world.ClientWait.{ClientWait}
 use Rattle.kernel_values.specs.declared.world.ClientWaitOn.{ClientWaitOn}
 use Rattle.kernel_values.specs.declared.world.ClientWaitOn.TheVariants as wait_on
-use Rattle.kernel_values.specs.declared.world.Connection.{Connection}
 use Rattle.kernel_values.specs.declared.world.ConnectionStatus.TheVariants as connection_status
 use Rattle.kernel_values.specs.declared.world.Driver.{Driver}
 use Rattle.kernel_values.specs.declared.world.World.{World}
 use Rattle.kernel_types.specs.Clients.{Acted, ns_refuses, ns_act, ns_connect_call, ns_send_call, ns_recv_call, ns_close_call, first_address, is_closed, receive_from, connect_answer, connect_answer_of, receive_answer, answer_of_wait, end_by_answer, end_of_ns_wait}
 use Rattle.kernel_types.specs.Drains.{connection_of, drained, to_normal_drained, from_normal_drained, drained_frames}
-use Rattle.ns_driver.specs.Acts.{bare, still_waits, awaited, wait_if, has_answer}
+use Rattle.ns_driver.specs.Acts.{bare, still_waits, awaited, wait_if}
 use Rattle.ns_driver.specs.Plans.{alone}
 use Rattle.ns_driver.specs.Worlds.{in_world, deadline_after, clients_with, clients_after, begun_in, CallsAnywhere, ended, resumed_in, WaitsEndAnywhere, WaitsMoveAnywhere}
 use Rattle.ns_driver.proofs.Anywhere.{placed, connects, sends, receives, closes, resumes}

@@ -1,5 +1,5 @@
 -- The memory that a scene begins with has its length.
-use Rattle.std.proofs.Common.{◌≡◌, ℕ, ◌∙◌, ◌^◌, length, replicate, refl, sym, ap}
+use Rattle.std.proofs.Common.{◌≡◌, ℕ, ◌∙◌, length, replicate, refl, sym, ap}
 use Rattle.std.proofs.lemmas.List.{length-replicate}
 use Rattle.kernel_types.specs.GuestMemory.{memory_size, blank_memory}
 

@@ -1,6 +1,6 @@
 -- What the driver does at a client's call and at the end of a client's wait: the model's call and the model's answer, in a
 -- world of which the driver sees the memory and itself.
-use Rattle.std.specs.Prelude.{◌≡◌, ℕ, ◌+◌, ◌^◌, ◌<◌, Bool, true, false, List, [], length, Option, Some, None, IsTrue, IsSome}
+use Rattle.std.specs.Prelude.{ℕ, ◌+◌, ◌^◌, ◌<◌, Bool, false, List, [], length, Option, Some, None, IsTrue, IsSome}
 use Rattle.std.specs.Option.{unwrap_or, is_some}
 use Rattle.kernel_values.specs.declared.call.Call.{Call}
 use Rattle.kernel_values.specs.declared.call.Call.TheVariants as call

@@ -8,12 +8,12 @@ ghost use Rattle.kernel_types.specs.Clients.{own_connection, first_address, ns_c
 ghost use Rattle.ns_driver.specs.Plans.{outcome, outcome_of, alone, rest_of, oldest_of};
 
 use crate::connections::place_of;
+use crate::copies::{copied_bytes, copied_messages};
 use crate::frames::{frame, request_frame};
 use kernel_values::{
-    Answer, Bytes, Connection, ConnectionStatus, Copied, Driver as DriverState, Errno, Items,
-    NoMemory, Reply,
+    Answer, Bytes, Connection, ConnectionStatus, Driver as DriverState, Errno, Items, NoMemory,
+    Reply,
 };
-use std::alloc::Global;
 use tipc_proto::PathName;
 
 /// The address of the first connection. The others follow one by one.
@@ -75,23 +75,16 @@ pub fn rest_of(free: &Items<u32>) -> Result<Option<Items<u32>>, NoMemory>
     }
 }
 
-fn copied_list(alloc: Global, list: &[Bytes]) -> Result<Items<Bytes>, NoMemory>
-    ensures { IfOk result (λ copy. copy ≡ list.now) }
-{
-    let mut copy = Items::new(alloc);
-    for bytes in list {
-        copy.push(bytes.copied()?)?;
-    }
-    Ok(copy)
-}
-
 /// The oldest message of an inbox, and what is left then.
 pub fn oldest_of(inbox: &Items<Bytes>) -> Result<Option<(Bytes, Items<Bytes>)>, NoMemory>
     ensures { IfOk result (λ oldest. oldest ≡ oldest_of inbox.now) }
 {
     match inbox.as_slice() {
         [] => Ok(None),
-        [first, rest @ ..] => Ok(Some((first.copied()?, copied_list(inbox.allocator(), rest)?))),
+        [first, rest @ ..] => {
+            let alloc = inbox.allocator();
+            Ok(Some((copied_bytes(alloc, first)?, copied_messages(alloc, rest)?)))
+        }
     }
 }
 

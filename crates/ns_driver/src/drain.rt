@@ -9,9 +9,10 @@ ghost use Rattle.ns_driver.specs.Standing.{IsSound};
 ghost use Rattle.ns_driver.specs.Acts.{bare};
 
 use crate::connections::deliver;
+use crate::copies::copied_connections;
 use crate::memory::{BUFFER_SIZE, buffer_place, ring};
 use crate::used::{Element, new_elements, used_idx};
-use kernel_values::{Bytes, Connection, Copied, Driver as DriverState, Items, NoMemory};
+use kernel_values::{Connection, Copied, Driver as DriverState, Items, NoMemory};
 use virtqueue::MEMORY_SIZE;
 
 /// The driver gives the first of a queue's descriptors a buffer each, at most so many.
@@ -71,27 +72,6 @@ pub fn frame_at<'m>(mem: &'m [u8], element: &Element) -> &'m [u8]
 {
     let at = buffer_place(0, element.id);
     &mem[at..at + element.len as usize]
-}
-
-fn copied_connection(connection: &Connection) -> Result<Connection, NoMemory>
-    ensures { IfOk result (λ copy. copy ≡ connection.now) }
-{
-    Ok(Connection {
-        address: connection.address,
-        client: connection.client,
-        status: connection.status,
-        inbox: connection.inbox.copied()?,
-    })
-}
-
-fn copied_connections(connections: &Items<Connection>) -> Result<Items<Connection>, NoMemory>
-    ensures { IfOk result (λ copy. copy ≡ connections.now) }
-{
-    let mut copy = Items::new(connections.allocator());
-    for connection in connections.as_slice() {
-        copy.push(copied_connection(connection)?)?;
-    }
-    Ok(copy)
 }
 
 /// The connections after the frames in these elements were delivered.

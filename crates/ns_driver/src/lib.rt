@@ -5,6 +5,7 @@
 mod acting;
 mod calls;
 mod connections;
+mod copies;
 mod drain;
 mod driver;
 mod errors;

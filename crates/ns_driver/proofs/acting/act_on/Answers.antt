@@ -1,5 +1,5 @@
 -- proofs/acting/act_on/Answers.antt
-use Rattle.std.proofs.Common.{rules, sym, ap, ◌∙◌}
+use Rattle.std.proofs.Common.{rules}
 use Rattle.ns_driver.proofs.Carrying.{act_told, may_act_drained, sound_after}
 use Rattle.ns_driver.proofs.acting.act_on.Goals as goal
 

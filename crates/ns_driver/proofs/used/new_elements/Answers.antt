@@ -1,5 +1,5 @@
 -- proofs/used/new_elements/Answers.antt
-use Rattle.std.proofs.Common.{◌≡◌, ◌+◌, ◌%◌, ◌<◌, sym, arith}
+use Rattle.std.proofs.Common.{◌+◌, ◌%◌}
 use Rattle.kernel_types.specs.GuestMemory.{used_element}
 use Rattle.ns_driver.proofs.Ranges.{one_more}
 use Rattle.ns_driver.proofs.used.new_elements.Goals as goal

@@ -1,6 +1,6 @@
 -- proofs/watching/seen_after/Answers.antt
-use Rattle.std.proofs.Common.{◌≡◌, ◌+◌, ◌%◌, ◌∙◌, ap, rules}
-use Rattle.kernel_types.specs.GuestMemory.{used_element, ring}
+use Rattle.std.proofs.Common.{◌+◌, ◌%◌, rules}
+use Rattle.kernel_types.specs.GuestMemory.{used_element}
 use Rattle.kernel_types.specs.Drains.{is_readable, frame_at}
 use Rattle.ns_driver.specs.Watching.{seen}
 use Rattle.ns_driver.proofs.Ranges.{one_folded}

@@ -1,7 +1,7 @@
 -- proofs/watching/seen_after/Invariants.antt
 use Rattle.std.proofs.Common.{◌≡◌, ◌+◌, ◌-◌, ◌%◌, map}
 use Rattle.std.specs.List.{fold, filter, range_with_len}
-use Rattle.kernel_types.specs.GuestMemory.{used_element, ring}
+use Rattle.kernel_types.specs.GuestMemory.{used_element}
 use Rattle.kernel_types.specs.Drains.{is_readable, frame_at, readable_elements}
 use Rattle.ns_driver.specs.Acts.{bare}
 use Rattle.ns_driver.specs.Watching.{seen}

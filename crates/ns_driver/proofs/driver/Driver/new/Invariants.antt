@@ -1,7 +1,6 @@
 -- proofs/driver/Driver/new/Invariants.antt
-use Rattle.std.proofs.Common.{◌≡◌, ◌<◌, None, replicate}
-use Rattle.std.specs.List.{All, range_with_len}
-use Rattle.kernel_types.specs.GuestMemory.{buffer_count}
+use Rattle.std.proofs.Common.{◌≡◌, None, replicate}
+use Rattle.std.specs.List.{range_with_len}
 use Rattle.ns_driver.proofs.driver.Driver.new.Given as goal
 
 abbrev pub invariant-loop-place : goal.invariant-loop-place

@@ -1,6 +1,6 @@
--- proofs/drain/copied_connections/Invariants.antt
+-- proofs/copies/copied_connections/Invariants.antt
 use Rattle.std.proofs.Common.{◌≡◌, take}
-use Rattle.ns_driver.proofs.drain.copied_connections.Given as goal
+use Rattle.ns_driver.proofs.copies.copied_connections.Given as goal
 
 abbrev pub invariant-loop-connection : goal.invariant-loop-connection
 invariant-loop-connection l = l.copy ≡ take l.connection-index l.connection-items

@@ -1,6 +1,0 @@
--- proofs/calls/copied_list/Invariants.antt
-use Rattle.std.proofs.Common.{◌≡◌, take}
-use Rattle.ns_driver.proofs.calls.copied_list.Given as goal
-
-abbrev pub invariant-loop-bytes : goal.invariant-loop-bytes
-invariant-loop-bytes l = l.copy ≡ take l.bytes-index l.list
