@@ -13,11 +13,9 @@ use Rattle.kernel_values.specs.declared.script.Command.{Command}
 use Rattle.kernel_values.specs.declared.state.Activity.{Activity}
 use Rattle.kernel_values.specs.declared.state.Activity.TheVariants as activity
 use Rattle.kernel_values.specs.declared.state.Application.{Application}
-use Rattle.kernel_values.specs.declared.world.ClientState.{ClientState}
 use Rattle.kernel_values.specs.declared.state.Thread.{Thread}
-use Rattle.kernel_values.specs.declared.entry.ActorStatus.TheVariants as status
 use Rattle.kernel_types.specs.Built.{is_built}
-use Rattle.kernel_types.specs.Opening.{opening, opening_app, opening_starts, opening_activity, opening_threads}
+use Rattle.kernel_types.specs.Opening.{opening, opening_app, opening_starts, opening_activity, opening_threads, opening_client}
 use Rattle.kernel_types.specs.Scripts.{script_begin}
 use Rattle.kernel_types.specs.Turns.{opening_run}
 use Rattle.kernel_types.specs.Whole.{answers_in}
@@ -143,9 +141,6 @@ stands_opened scripts apps k thread scripts_are o =
       fits = λ script script_is. subst (λ (a : Activity). Fits [] k script a) (sym o.activity_is) (fits_opened k script o.app.manifest);
     }
 
-abbrev beginning : Client → ClientState
-beginning client = record { status = status.Running 1 }
-
 pub placed_at_opening : (scene : SceneValue) → IsLawfulScene scene → scene.clients ≡ [] → AtScripts (scripts_of scene) (opening_run scene)
 unfolding opening
 placed_at_opening scene lawful alone =
@@ -153,5 +148,5 @@ placed_at_opening scene lawful alone =
     ap (λ (clients : List Client). flat_map (λ (a : App). a.threads) scene.apps ++ map (λ (client : Client). client.script) clients) alone ∙ append-nil _ in
     record {
       all = λ k thread is. stands_opened (scripts_of scene) scene.apps k thread scripts_are (opened 0 scene.apps k thread lawful.apps is);
-      alone = ap (λ (clients : List Client). map beginning clients) alone;
+      alone = ap (λ (clients : List Client). map opening_client clients) alone;
     }

@@ -21,11 +21,12 @@ use Rattle.kernel_types.specs.Applications.{exit, finish, application_ended, thr
 use Rattle.kernel_types.specs.Built.{is_built}
 use Rattle.kernel_types.specs.Objects.{map_at}
 use Rattle.kernel_types.specs.Outcome.{Outcome}
-use Rattle.kernel_types.specs.CoreStep.{act, swept, core_begin, resumed, core_resume, core_idle, least_deadline}
-use Rattle.kernel_types.specs.Step.{full_step, step, in_world, idle, idle_lawful}
+use Rattle.kernel_types.specs.CoreStep.{act, swept, core_begin, resumed, core_resume, core_idle}
+use Rattle.kernel_types.specs.Step.{full_step, step, in_world, idle, idle_lawful, next_deadline}
 use Rattle.kernel_types.specs.Sweep.{sweep, kept, pruned}
 use Rattle.kernel_types.specs.Threads.{with_activity, activity_changed, running_activity}
 use Rattle.kernel_types.specs.Waits.{end_of_wait}
+use Rattle.kernel_types.proofs.Actors.{thread_is_thread}
 use Rattle.runners.proofs.Quiet.{Quiet, starts_of}
 use Rattle.run_laws.proofs.Acting.{is_ending, Upheld, act_upholds}
 use Rattle.run_laws.proofs.Calling.{IsNext}
@@ -170,25 +171,25 @@ pub idle_after : (scripts : List (List Command)) (entries : List Entry) (s : Sta
     → AllStand scripts (entries ++ entry_with event.Idle (idle s).answer (idle s).seqs ∷ []) (idle s).state.core
 idle_after scripts entries s all =
     let entry : Entry = entry_with event.Idle (idle s).answer (idle s).seqs in
-    swept_stands scripts (entries ++ entry ∷ []) (core_idle (least_deadline s.core) s.core)
-    (idle_stands scripts (entries ++ entry ∷ []) s.core (least_deadline s.core) (all_longer scripts entries entry s.core (λ j start. refl) all))
+    swept_stands scripts (entries ++ entry ∷ []) (core_idle (next_deadline s) s.core)
+    (idle_stands scripts (entries ++ entry ∷ []) s.core (next_deadline s) (all_longer scripts entries entry s.core (λ j start. refl) all))
 
 -- The steps of the whole state.
 
 pub begin_step : (s : State) (k start : ℕ) (thread : Thread) (asked : Call) (outcome : Outcome) → slice_get s.core.threads k ≡ Some thread → thread.activity ≡ activity.Running start
     → is_built asked ≡ true → act s.core k thread.app asked ≡ Some outcome → step s (event.Begin (record { 0 = k }) start asked) ≡ Some (in_world s.world (swept outcome))
 unfolding step full_step core_begin
-begin_step s k start thread asked outcome thread_is activity_is built is = rw (built, thread_is, activity_is, self_is start, is) refl
+begin_step s k start thread asked outcome thread_is activity_is built is = rw (built, thread_is_thread s k thread thread_is, thread_is, activity_is, self_is start, is) refl
 
 pub resume_step : (s : State) (k start : ℕ) (thread : Thread) (w : Wait) (outcome : Outcome) → slice_get s.core.threads k ≡ Some thread → thread.activity ≡ activity.Waiting start w
     → end_of_wait s.core thread.app w ≡ Some outcome → step s (event.Resume (record { 0 = k }) start) ≡ Some (in_world s.world (resumed k outcome))
 unfolding step full_step core_resume
-resume_step s k start thread w outcome thread_is activity_is is = rw (thread_is, activity_is, self_is start, is) refl
+resume_step s k start thread w outcome thread_is activity_is is = rw (thread_is_thread s k thread thread_is, thread_is, activity_is, self_is start, is) refl
 
 pub stays_waiting : (s : State) (k start : ℕ) (thread : Thread) (w : Wait) → slice_get s.core.threads k ≡ Some thread → thread.activity ≡ activity.Waiting start w
     → end_of_wait s.core thread.app w ≡ None → step s (event.Resume (record { 0 = k }) start) ≡ None
 unfolding step full_step core_resume
-stays_waiting s k start thread w thread_is activity_is is = rw (thread_is, activity_is, self_is start, is) refl
+stays_waiting s k start thread w thread_is activity_is is = rw (thread_is_thread s k thread thread_is, thread_is, activity_is, self_is start, is) refl
 
 pub idle_step : (s : State) → idle_lawful s ≡ true → step s event.Idle ≡ Some (idle s)
 unfolding step full_step

@@ -1,6 +1,7 @@
 -- Turns from a run in which every thread stands at its script.
-use Rattle.std.proofs.Common.{◌≡◌, ℕ, zero, suc, Bool, true, false, List, [], ◌∷◌, ◌++◌, map, Option, Some, None, refl, ap, sym, ◌∙◌, subst, append-nil}
-use Rattle.std.specs.Prelude.{slice_get}
+use Rattle.std.proofs.Common.{◌≡◌, ℕ, Bool, true, false, cond, List, [], ◌++◌, map, Option, Some, None, refl, ap, sym, ◌∙◌, subst, append-nil}
+use Rattle.std.proofs.lemmas.Option.{slice_get-map}
+use Rattle.std.specs.Prelude.{slice_get, ◌&&◌, not}
 use Rattle.std.specs.Option.{option_map, is_some}
 use Rattle.kernel_values.specs.declared.call.Call.{Call}
 use Rattle.kernel_values.specs.declared.entry.ActorStatus.{ActorStatus}
@@ -12,15 +13,20 @@ use Rattle.kernel_values.specs.declared.scene.Turn.TheVariants as turn
 use Rattle.kernel_values.specs.declared.script.Command.{Command}
 use Rattle.kernel_values.specs.declared.state.Activity.{Activity}
 use Rattle.kernel_values.specs.declared.state.Activity.TheVariants as activity
-use Rattle.kernel_values.specs.declared.world.ClientState.{ClientState}
+use Rattle.kernel_values.specs.declared.state.CoreState.{CoreState}
 use Rattle.kernel_values.specs.declared.state.State.{State}
 use Rattle.kernel_values.specs.declared.state.Thread.{Thread}
 use Rattle.kernel_values.specs.declared.state.Wait.{Wait}
+use Rattle.kernel_values.specs.declared.world.ClientState.{ClientState}
+use Rattle.kernel_values.specs.declared.world.World.{World}
+use Rattle.kernel_types.proofs.Actors.{thread_is_thread, thread_moves}
+use Rattle.kernel_types.specs.Clients.{client_changed, client_cancelled}
+use Rattle.kernel_types.specs.Device.{DeviceStep, device_step, due_of, has_device, step_by_due}
 use Rattle.kernel_types.specs.Facts.{status_at}
 use Rattle.kernel_types.specs.Outcome.{Outcome}
 use Rattle.kernel_types.specs.Scripts.{next_call}
 use Rattle.kernel_types.specs.CoreStep.{act, status_of, swept, resumed}
-use Rattle.kernel_types.specs.Step.{Stepped, step, full_step, statuses, in_world, idle, idle_lawful, device_has_work, movable}
+use Rattle.kernel_types.specs.Step.{Stepped, step, full_step, statuses, client_status, in_world, device_stepped, idle, idle_lawful, next_deadline, world_idle, device_has_work, movable}
 use Rattle.kernel_types.specs.Turns.{Run, grown, event_of, run_event, run_turn, takes_turn, kernel_turn, begin_by_script, begin_if, event_by_status}
 use Rattle.kernel_types.specs.Waits.{end_of_wait, thread_movable}
 use Rattle.run_laws.proofs.Calling.{IsNext, next_of, outcome_of, some_of}
@@ -34,17 +40,12 @@ pub record AtScripts (scripts : List (List Command)) (run : Run) : Type 0 where
 
 -- The status of an actor is its thread's.
 
-mapped_get : {X Y : Type 0} (f : X → Y) (xs : List X) (k : ℕ) → slice_get (map f xs) k ≡ option_map f (slice_get xs k)
-mapped_get f [] k = refl
-mapped_get f (x ∷ xs) zero = refl
-mapped_get f (x ∷ xs) (suc k) = mapped_get f xs k
-
 status_is : (s : State) (k : ℕ) → s.world.clients ≡ [] → status_at s k ≡ option_map (λ (t : Thread). status_of t.activity) (slice_get s.core.threads k)
 unfolding statuses
 status_is s k alone =
     let f : Thread → ActorStatus = λ t. status_of t.activity in
-    ap (λ (clients : List ClientState). slice_get (map f s.core.threads ++ map (λ client. client.status) clients) k) alone
-    ∙ (ap (λ xs. slice_get xs k) (append-nil (map f s.core.threads)) ∙ mapped_get f s.core.threads k)
+    ap (λ (clients : List ClientState). slice_get (map f s.core.threads ++ map (λ client. client_status client.activity) clients) k) alone
+    ∙ (ap (λ xs. slice_get xs k) (append-nil (map f s.core.threads)) ∙ slice_get-map f s.core.threads k)
 
 -- how an actor can take a turn: it runs, or the end of its wait is there
 pub data Taking (s : State) (k : ℕ) : Type 0 where
@@ -52,10 +53,15 @@ pub data Taking (s : State) (k : ℕ) : Type 0 where
   wakes : (thread : Thread) (start : ℕ) (w : Wait) → slice_get s.core.threads k ≡ Some thread → thread.activity ≡ activity.Waiting start w → status_at s k ≡ Some (status.Waiting start)
       → is_some (end_of_wait s.core thread.app w) ≡ true → Taking s k
 
+end_is_there : (c : CoreState) (k start : ℕ) (thread : Thread) (w : Wait) → slice_get c.threads k ≡ Some thread → thread.activity ≡ activity.Waiting start w
+    → thread_movable c k ≡ is_some (end_of_wait c thread.app w)
+unfolding thread_movable
+end_is_there c k start thread w thread_is activity_is = rw (thread_is, activity_is) refl
+
 movable_is : (s : State) (k start : ℕ) (thread : Thread) (w : Wait) → slice_get s.core.threads k ≡ Some thread → thread.activity ≡ activity.Waiting start w
     → movable s k ≡ is_some (end_of_wait s.core thread.app w)
-unfolding movable thread_movable
-movable_is s k start thread w thread_is activity_is = rw (thread_is, activity_is) refl
+movable_is s k start thread w thread_is activity_is =
+    thread_moves s k (thread_is_thread s k thread thread_is) ∙ end_is_there s.core k start thread w thread_is activity_is
 
 taking_as : (s : State) (k : ℕ) (thread : Thread) (a : Activity) → slice_get s.core.threads k ≡ Some thread → thread.activity ≡ a → status_at s k ≡ Some (status_of a)
     → takes_turn s k ≡ true → Taking s k
@@ -144,20 +150,35 @@ taken_by scripts run k placed (wakes thread start w thread_is activity_is is mov
 pub actor_taken : (scripts : List (List Command)) (run : Run) (k : ℕ) → AtScripts scripts run → takes_turn run.state k ≡ true → Taken scripts run (turn.Actor k)
 actor_taken scripts run k placed takes = taken_by scripts run k placed (taking run.state k placed.alone takes)
 
+-- The device is not there without a client.
+
+nothing_to_do : (s : State) → s.world.clients ≡ [] → device_step s ≡ None
+unfolding device_step
+nothing_to_do s alone = ap (λ (clients : List ClientState). cond (has_device clients && not s.world.device.broken) (step_by_due s (due_of s.core s.world.device)) None) alone
+
+no_work : (s : State) → s.world.clients ≡ [] → device_has_work s ≡ false
+unfolding device_has_work
+no_work s alone = ap (λ (o : Option DeviceStep). is_some o) (nothing_to_do s alone)
+
 -- And Idle, where it is lawful.
+
+idle_alone : (deadline : Option ℕ) (w : World) → w.clients ≡ [] → (world_idle deadline w).clients ≡ []
+unfolding world_idle
+idle_alone (Some deadline) w alone = alone
+idle_alone None w alone = ap (λ (clients : List ClientState). map (client_changed client_cancelled) clients) alone
 
 pub idle_taken : (scripts : List (List Command)) (run : Run) → AtScripts scripts run → idle_lawful run.state ≡ true → Taken scripts run turn.Idle
 unfolding event_of
 idle_taken scripts run placed lawful = record {
   next = grown run event.Idle (idle run.state);
   took = turns scripts run turn.Idle event.Idle (idle run.state) refl (idle_step run.state lawful);
-  placed = record { all = idle_after scripts run.entries run.state placed.all; alone = placed.alone };
+  placed = record { all = idle_after scripts run.entries run.state placed.all; alone = idle_alone (next_deadline run.state) run.state.world placed.alone };
 }
 
 kernel_by : (scripts : List (List Command)) (run : Run) (t : Turn) (lawful : Bool) → idle_lawful run.state ≡ lawful → AtScripts scripts run → kernel_turn run.state ≡ Some t → Taken scripts run t
-unfolding device_has_work
-kernel_by scripts run t true is placed turn_is = subst (λ (u : Turn). Taken scripts run u) (let same : turn.Idle ≡ t = cc (rw is at turn_is) in same) (idle_taken scripts run placed is)
-kernel_by scripts run t false is placed turn_is = absurd (cc (rw is at turn_is))
+kernel_by scripts run t true is placed turn_is =
+    subst (λ (u : Turn). Taken scripts run u) (let same : turn.Idle ≡ t = cc (rw (no_work run.state placed.alone, is) at turn_is) in same) (idle_taken scripts run placed is)
+kernel_by scripts run t false is placed turn_is = absurd (cc (rw (no_work run.state placed.alone, is) at turn_is))
 
 pub kernel_taken : (scripts : List (List Command)) (run : Run) (t : Turn) → AtScripts scripts run → kernel_turn run.state ≡ Some t → Taken scripts run t
 kernel_taken scripts run t placed turn_is = kernel_by scripts run t (idle_lawful run.state) refl placed turn_is
@@ -196,9 +217,9 @@ actor_keeps scripts run next k false never placed is =
     let none : run_turn step scripts run (turn.Actor k) ≡ None = not_taken_by scripts run k (slice_get run.state.core.threads k) refl (status_is run.state k placed.alone) never in
     absurd (cc)
 
-no_device : (scripts : List (List Command)) (run : Run) → run_turn step scripts run turn.Device ≡ None
+no_device : (scripts : List (List Command)) (run : Run) → run.state.world.clients ≡ [] → run_turn step scripts run turn.Device ≡ None
 unfolding event_of step full_step
-no_device scripts run = refl
+no_device scripts run alone = ap (λ (o : Option DeviceStep). option_map (grown run event.Device) (option_map device_stepped o)) (nothing_to_do run.state alone)
 
 no_idle : (scripts : List (List Command)) (run : Run) → idle_lawful run.state ≡ false → run_turn step scripts run turn.Idle ≡ None
 unfolding event_of step full_step
@@ -210,5 +231,5 @@ idle_keeps scripts run next false never placed is = let none : run_turn step scr
 
 pub turn_keeps : (scripts : List (List Command)) (run next : Run) (t : Turn) → AtScripts scripts run → run_turn step scripts run t ≡ Some next → AtScripts scripts next
 turn_keeps scripts run next (turn.Actor k) placed is = actor_keeps scripts run next k (takes_turn run.state k) refl placed is
-turn_keeps scripts run next turn.Device placed is = let none : run_turn step scripts run turn.Device ≡ None = no_device scripts run in absurd (cc)
+turn_keeps scripts run next turn.Device placed is = let none : run_turn step scripts run turn.Device ≡ None = no_device scripts run placed.alone in absurd (cc)
 turn_keeps scripts run next turn.Idle placed is = idle_keeps scripts run next (idle_lawful run.state) refl placed is

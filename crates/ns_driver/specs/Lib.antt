@@ -1,0 +1,5 @@
+pub mod Standing
+pub mod Acts
+pub mod Plans
+pub mod Watching
+pub mod Worlds
