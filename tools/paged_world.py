@@ -4,12 +4,12 @@
   paged_world.py --out crates/paged_world
 
 A lemma by computation holds the whole state as a value, and a list of 1,048,576 bytes is too long for
-that. The scratch crate has the definitions of virtqueue and normal_world, and those of kernel_types
-that stand on the whole state, word by word, with their imports led to one another; only what reads and
+that. The scratch crate has the definitions of virtqueue, and those of kernel_types that stand on the
+memory, word by word, with their imports led to one another; only what reads and
 writes memory is written anew, for a memory that has only the pages of 64 bytes that were written, each
 as one number. Addresses, sizes and layout are the real ones, and the crate's own lemmas compare pages with
 lists on some hundred reads and writes. crates.txt of the scratch clone
-lists it as `paged_world: byteorder kernel_values kernel_types virtqueue tipc_proto normal_world`, and
+lists it as `paged_world: byteorder kernel_values kernel_types virtqueue tipc_proto`, and
 `try_cases.py --world paged_world` tries scenes with clients on it."""
 import argparse, os, re
 
@@ -18,8 +18,7 @@ HERE = os.path.dirname(os.path.dirname(os.path.abspath(__file__)))
 # The files that are copied, from the crates that they are of.
 COPIED = {
     "virtqueue": ["Layout", "Bytes", "Chains"],
-    "normal_world": ["Bridge", "Carried", "Clients", "Device", "Drains", "Errors", "GuestMemory", "History", "Opening", "Sending", "Step"],
-    "kernel_types": ["Facts", "Turns", "Serial"],
+    "kernel_types": ["GuestMemory", "Drains", "Clients", "Device", "Opening", "Step", "History", "Facts", "Turns", "Serial"],
 }
 
 # Memory by pages.
@@ -82,7 +81,7 @@ use Rattle.virtqueue.specs.Layout.{written_at, number_at}
 use Rattle.virtqueue.specs.Bytes.{addresses, stored, bytes_at}
 use Rattle.paged_world.specs.Pages.{put_bytes, get_bytes, number_in}
 use Rattle.paged_world.specs.Bytes.{stored as paged_stored, bytes_at as paged_bytes_at}
-use Rattle.paged_world.specs.OnLiterals.{world_on_literals}
+use Rattle.paged_world.specs.OnLiterals.{pages_on_literals}
 
 abbrev xs : List ℕ
 xs = range_with_len 1 220
@@ -97,27 +96,27 @@ abbrev parts : List Part
 parts = (record { addr = 10; len = 70 }) ∷ (record { addr = 50; len = 0 }) ∷ (record { addr = 60; len = 66 }) ∷ (record { addr = 5; len = 20 }) ∷ []
 
 whole : get_bytes 0 220 paged ≡ xs
-unfolding world_on_literals
+unfolding pages_on_literals
 whole = refl
 
 numbers : list_all (λ k. number_at 4 k xs == number_in 4 k paged && number_at 8 k xs == number_in 8 k paged) (range_with_len 0 210) ≡ true
-unfolding world_on_literals
+unfolding pages_on_literals
 numbers = refl
 
 writes : list_all (λ k. bytes_eq (written_at k ys xs) (get_bytes 0 220 (put_bytes k ys paged))) (range_with_len 0 90) ≡ true
-unfolding world_on_literals written_at
+unfolding pages_on_literals
 writes = refl
 
 reads : list_all (λ k. bytes_eq (take 130 (drop k xs)) (get_bytes k 130 paged)) (range_with_len 0 90) ≡ true
-unfolding world_on_literals
+unfolding pages_on_literals
 reads = refl
 
 stores : list_all (λ k. bytes_eq (stored parts (take k ys) xs) (get_bytes 0 220 (paged_stored parts (take k ys) paged))) (0 ∷ 1 ∷ 69 ∷ 70 ∷ 71 ∷ 100 ∷ 130 ∷ []) ≡ true
-unfolding world_on_literals stored addresses
+unfolding pages_on_literals
 stores = refl
 
 loads : bytes_eq (bytes_at parts xs) (paged_bytes_at parts paged) ≡ true
-unfolding world_on_literals bytes_at addresses
+unfolding pages_on_literals
 loads = refl
 """
 
@@ -139,13 +138,8 @@ stored_in (part ∷ parts) bytes memory = stored_in parts (drop part.len bytes) 
 
 """
 
-# Words of other crates that a computation opens too.
-OPENED = {
-    "tipc_proto.specs.Frames": ["header", "frame_in"],
-    "tipc_proto.specs.Names": ["name_field", "name_in"],
-    "tipc_proto.specs.Controls": ["message", "answer_body", "leave_body", "body_in", "control_in"],
-    "kernel_types.specs.OnLiterals": ["kernel_on_literals"],
-}
+# The words that a computation opens beside those of the copies.
+OPENED = {"kernel_types.specs.OnLiterals": ["kernel_on_literals", "world_on_literals"]}
 
 USE = re.compile(r"^use Rattle\.(\w+)\.specs\.(\w+)\.\{(.*)\}$", re.M)
 DEFINED = re.compile(r"^(?:abbrev|unfoldable) pub (\w+)|^pub (?:record|data) (\w+)|^  (\w+) : [^\n]*→ \w+$|^  (\w+) : \w+$", re.M)
@@ -172,10 +166,6 @@ def texts():
     at = copies["Bytes"].index("-- the memory with the first byte put at the first address")
     copies["Bytes"] = copies["Bytes"][:at] + STORED_IN + copies["Bytes"][at:]
     copies["Bytes"] = copies["Bytes"].replace("List, map,", "List, [], ◌∷◌, take, drop, map,", 1)
-    copies["Turns"] = copies["Turns"].replace("run_from step ", "run_from whole_step ").replace("serial_from step ", "serial_from whole_step ")
-    copies["Serial"] = copies["Serial"].replace("full_step", "whole_step")
-    for name in ("Turns", "Serial"):
-        copies[name] = re.sub(r"(Step\.\{[^}]*)\b(?:step|full_step)\b", r"\1whole_step", copies[name])
     return copies
 
 
@@ -185,7 +175,7 @@ def led(copies):
 
     def lead(found):
         crate, module, words = found.group(1), found.group(2), [w.strip() for w in found.group(3).split(",")]
-        if module not in homes or crate == "tipc_proto":
+        if module not in homes:
             return found.group(0)
         mine = [w for w in words if w in homes[module]]
         rest = [w for w in words if w not in homes[module]]
@@ -193,11 +183,7 @@ def led(copies):
         lines += ["use Rattle.%s.specs.%s.{%s}" % (crate, module, ", ".join(rest))] if rest else []
         return "\n".join(lines)
 
-    def change(text):
-        text = USE.sub(lead, text)
-        return text.replace("Rattle.kernel_values.specs.declared.state.State.{State}", "Rattle.normal_world.specs.declared.world.State.{State}")
-
-    return change
+    return lambda text: USE.sub(lead, text)
 
 
 def on_literals(copies):
@@ -205,7 +191,7 @@ def on_literals(copies):
     opened += list(OPENED.items())
     uses = "".join("use Rattle.%s.{%s}\n" % (module, ", ".join(words)) for module, words in opened if words)
     words = " ".join(word for _, words in opened for word in words)
-    return "use Rattle.std.specs.Prelude.{⊤}\n" + uses + "\nunfoldable pub world_on_literals : ⊤\nunfolding %s\nworld_on_literals = tt\n" % words
+    return "use Rattle.std.specs.Prelude.{⊤}\n" + uses + "\nunfoldable pub pages_on_literals : ⊤\nunfolding %s\npages_on_literals = tt\n" % words
 
 
 def write(path, text):
@@ -229,7 +215,7 @@ def main():
     write(os.path.join(folder, "specs/Lib.antt"), "".join("pub mod %s\n" % name for name in names))
     write(os.path.join(folder, "proofs/PagesAgree.antt"), AGREE)
     write(os.path.join(folder, "proofs/Lib.antt"), "mod PagesAgree\n")
-    write(os.path.join(folder, "src/lib.rt"), "//! The definitions of the normal world over pages.\n#![tactic(auto)]\n\n/// The definitions are checked with the crate.\npub fn paged() {}\n")
+    write(os.path.join(folder, "src/lib.rt"), "//! The definitions of the whole kernel over pages.\n#![tactic(auto)]\n\n/// The definitions are checked with the crate.\npub fn paged() {}\n")
 
 
 if __name__ == "__main__":

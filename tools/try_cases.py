@@ -14,9 +14,9 @@ printed turn is refused; where the case prints the form counts or summary, the l
 With --run it checks the crate, and prints for each case: agrees, differs
 (with the first difference), or limit (the checker stopped before it had an answer). Tried are scenes
 without clients, not in the form actors, smaller ones first; --largest leaves out cases that print
-more bytes. With --world CRATE those with clients are tried instead, over the definitions of the whole
-state in a crate that paged_world.py wrote; crates.txt then lists it behind the others, as `tried:
-byteorder kernel_values kernel_types virtqueue tipc_proto normal_world paged_world`. Every name of the
+more bytes. With --world CRATE those with clients are tried instead, over the definitions in a crate
+that paged_world.py wrote; crates.txt then lists it behind the others, as `tried: kernel_values
+kernel_types paged_world`. Every name of the
 definitions stands in the table below."""
 import argparse, json, os, re, subprocess, sys, uuid
 
@@ -601,18 +601,13 @@ def wanted_cases(arguments):
 
 
 def over_world(crate):
-    """Leads what stands on the whole state to the crate's definitions."""
+    """Leads what stands on the memory to the crate's definitions."""
     def led(line):
-        line = line.replace("Rattle.kernel_values.specs.declared.state.State", "Rattle.normal_world.specs.declared.world.State")
-        for module in ("Opening", "Turns", "Serial", "Facts", "Step"):
-            line = line.replace("Rattle.kernel_types.specs.%s." % module, "Rattle.%s.specs.%s." % (crate, module))
-        return line.replace("{full_step}", "{whole_step}")
+        return re.sub(r"Rattle\.kernel_types\.specs\.(Opening|Turns|Serial|Facts|Step)\.", r"Rattle.%s.specs.\1." % crate, line)
 
-    global SHOWN
-    SHOWN = SHOWN.replace("full_step", "whole_step")
     SHOWN_IMPORTS[:], DEFINITIONS[:] = map(led, SHOWN_IMPORTS), map(led, DEFINITIONS)
-    UNFOLDING.append("world_on_literals")
-    UNFOLDING_IMPORTS.append("Rattle.%s.specs.OnLiterals.{world_on_literals}" % crate)
+    UNFOLDING[:] = ["pages_on_literals"]
+    UNFOLDING_IMPORTS[:] = ["Rattle.%s.specs.OnLiterals.{pages_on_literals}" % crate]
 
 
 def write(path, text):
@@ -693,7 +688,7 @@ def main():
     parser.add_argument("--from", dest="start", type=int, default=0, help="the first case's number, smaller scenes first")
     parser.add_argument("--largest", type=int, default=6000, help="the most bytes that a case may print")
     parser.add_argument("--only", default="", help="cases whose name contains this text")
-    parser.add_argument("--world", help="a crate with the definitions of the whole state")
+    parser.add_argument("--world", help="a crate with the definitions over pages")
     parser.add_argument("--run", action="store_true", help="check the crate and print what holds")
     arguments = parser.parse_args()
     if arguments.world:
