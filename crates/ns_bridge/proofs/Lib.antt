@@ -1,0 +1,14 @@
+pub mod Awaiting
+pub mod Blank
+pub mod ClientSteps
+pub mod Counting
+pub mod DeviceSteps
+pub mod Fitting
+pub mod IdleSteps
+pub mod Lifting
+pub mod Lists
+pub mod Moving
+pub mod Opened
+pub mod Readings
+pub mod Telling
+pub mod Threads
