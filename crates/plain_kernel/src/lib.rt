@@ -4,6 +4,7 @@
 
 mod accepts;
 mod applications;
+mod bridge;
 mod connects;
 mod depths;
 mod ends;
@@ -15,6 +16,7 @@ pub mod kernel;
 mod memberships;
 mod memories;
 mod messages;
+mod name_counts;
 mod names;
 mod objects;
 mod opening;
@@ -25,6 +27,7 @@ mod reports;
 mod sends;
 mod sets;
 mod step;
+mod survey;
 mod sweep;
 mod tables;
 mod threads;
