@@ -4,12 +4,8 @@ use Rattle.std.specs.Prelude.{Bool, true, false}
 use Rattle.kernel_values.specs.declared.call.Call.{Call}
 use Rattle.kernel_values.specs.declared.call.Call.TheVariants as call
 
--- every system call; none of the normal world
+-- every call of a thread, and of a client those of the driver; none that is hostile
 abbrev pub is_built : Call → Bool
-is_built (call.NsConnect path) = false
-is_built (call.NsSend conn bytes) = false
-is_built (call.NsRecv conn timeout) = false
-is_built (call.NsClose conn) = false
 is_built (call.NsPoke addr bytes) = false
 is_built (call.NsKick queue head) = false
 is_built _ = true
