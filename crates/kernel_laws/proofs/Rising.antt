@@ -1,5 +1,6 @@
 -- Object numbers rise, and none is given twice.
 use Rattle.std.proofs.Common.{◌≡◌, ◌≤◌, ◌<◌, ℕ, ◌+◌, ◌++◌, ◌==◌, ◌||◌, Bool, true, false, cond, not, List, [], ◌∷◌, length, map, Option, Some, None, refl, sym, ◌∙◌, subst, ap, arith, tests, append_assoc, append-nil, length-append}
+use Rattle.std.specs.Prelude.{Ok}
 use Rattle.std.specs.List.{filter, position_or_len}
 use Rattle.std.specs.Option.{option_map, option_or, is_some}
 use Rattle.kernel_values.specs.SceneLaw.{SceneValue}
@@ -11,6 +12,7 @@ use Rattle.kernel_values.specs.declared.state.Port.{Port}
 use Rattle.kernel_values.specs.declared.state.CoreState.{CoreState}
 use Rattle.kernel_values.specs.declared.state.State.{State}
 use Rattle.kernel_types.specs.Applications.{application_ended, started}
+use Rattle.kernel_types.specs.Bridge.{ns_connect, ns_drop, ns_push, ns_take}
 use Rattle.kernel_types.specs.History.{Legal, state_after}
 use Rattle.kernel_types.specs.Messages.{with_message, with_opened, without_opened}
 use Rattle.kernel_types.specs.Objects.{changed, is_there, on_body, on_end}
@@ -18,12 +20,13 @@ use Rattle.kernel_types.specs.Opening.{opening}
 use Rattle.kernel_types.specs.Ports.{admitted, decided, end_is_admitted, new_server, publish, server_of}
 use Rattle.kernel_types.specs.CoreStep.{core_idle}
 use Rattle.kernel_types.specs.Step.{Stepped, step}
+use Rattle.kernel_types.specs.Sweep.{sweep}
 use Rattle.kernel_laws.specs.Numbers.{HasRisingNumbers, IsSpent, RisesFrom}
 use Rattle.kernel_laws.proofs.Found.{changed_cons, found, found_append, found_changed, found_filter, found_map}
 use Rattle.kernel_laws.proofs.Publishing.{servers_new}
 use Rattle.kernel_laws.proofs.Starts.{same_ended, same_idle, same_started}
 use Rattle.kernel_laws.proofs.Tells.{IsNew}
-use Rattle.kernel_laws.proofs.Walk.{Kept, StepKeeps, history_keeps, step_keeps}
+use Rattle.kernel_laws.proofs.Walk.{Kept, StepKeeps, history_keeps, made_kept, ns_connect_keeps, ns_drop_kept, ns_push_keeps, ns_take_keeps, step_keeps, swept_kept}
 
 abbrev Nothing : Type 0
 Nothing = Unit {0}
@@ -112,7 +115,7 @@ servers_rise port first low ys (x ∷ xs) up =
           (omega (arith, place, length-append ys (x ∷ []))) rest,
     )
 
-abbrev Rises : CoreState → Type 0
+abbrev pub Rises : CoreState → Type 0
 Rises c = RisesFrom 0 c.objects c.next
 
 rises_published : (c : CoreState) → Rises c → (port : Port) → Rises (publish port c)
@@ -162,6 +165,28 @@ stepped_rises (Some stepped) r is k =
 pub steps_rise : (s : State) (e : Event) (r : Stepped) → HasRisingNumbers s → step s e ≡ Some r → HasRisingNumbers r.state
 unfolding rising
 steps_rise s e r rises is = stepped_rises (step s e) r is (step_keeps Nothing rising tt s rises e)
+
+-- What the bridge asks of the core, and time that passes, keep the numbers rising.
+
+pub connected_rises : (c made : CoreState) (path : List ℕ) → Rises c → ns_connect c path ≡ Ok made → Rises made
+unfolding rising
+connected_rises c made path rises is = made_kept Nothing rising tt (ns_connect c path) made (ns_connect_keeps Nothing rising tt c rises path) is
+
+pub pushed_rises : (c : CoreState) (end : ℕ) (bytes : List ℕ) → Rises c → Rises (ns_push c end bytes).core
+unfolding rising
+pushed_rises c end bytes rises = ns_push_keeps Nothing rising tt c rises end bytes
+
+pub taken_rises : (c : CoreState) (end : ℕ) → Rises c → Rises (ns_take c end).core
+unfolding rising
+taken_rises c end rises = ns_take_keeps Nothing rising tt c rises end
+
+pub dropped_rises : (c : CoreState) (broken : Bool) (end : ℕ) → Rises c → Rises (ns_drop broken end c)
+unfolding rising
+dropped_rises c broken end rises = ns_drop_kept Nothing rising tt c rises broken end
+
+pub idled_rises : (c : CoreState) (clock : Option ℕ) → Rises c → Rises (sweep (core_idle clock c))
+unfolding rising
+idled_rises c clock rises = swept_kept Nothing rising tt (core_idle clock c) (rises_same c (core_idle clock c) (same_idle c clock) rises)
 
 pub histories_rise : (scene : SceneValue) (entries : List Entry) → Legal (opening scene) entries → HasRisingNumbers (state_after (opening scene) entries)
 unfolding rising opening

@@ -548,7 +548,7 @@ module _ (X : Type 0) (L : Kept X) where
 
   -- Steps.
 
-  swept_kept : (x : X) (c : CoreState) → L.holds x c → L.holds x (sweep c)
+  pub swept_kept : (x : X) (c : CoreState) → L.holds x c → L.holds x (sweep c)
   unfolding sweep pruned kept
   swept_kept x c k =
       let prune : Port → Port = pruned_port (reached c) c.objects in
@@ -639,7 +639,7 @@ module _ (X : Type 0) (L : Kept X) where
 
   -- The calls of the bridge.
 
-  abbrev MadeKeeps : X → Result CoreState Errno → Type 0
+  abbrev pub MadeKeeps : X → Result CoreState Errno → Type 0
   MadeKeeps x (Err errno) = Unit {0}
   MadeKeeps x (Ok made) = L.holds x made
 
@@ -655,15 +655,15 @@ module _ (X : Type 0) (L : Kept X) where
       elim (not (admits start connector.NormalWorld)) as (λ b. MadeKeeps x (cond b (Err errno.AccessDenied) (Ok (sweep made)))) [ true ↦ tt | false ↦ swept_kept x made keeps ]
   ns_way_keeps x to_nothing c k path = tt
 
-  ns_connect_keeps : (x : X) (c : CoreState) → L.holds x c → (path : List ℕ) → MadeKeeps x (ns_connect c path)
+  pub ns_connect_keeps : (x : X) (c : CoreState) → L.holds x c → (path : List ℕ) → MadeKeeps x (ns_connect c path)
   unfolding ns_connect
   ns_connect_keeps x c k path = ns_way_keeps x (way_of c path) c k path
 
-  made_kept : (x : X) (r : Result CoreState Errno) (made : CoreState) → MadeKeeps x r → r ≡ Ok made → L.holds x made
+  pub made_kept : (x : X) (r : Result CoreState Errno) (made : CoreState) → MadeKeeps x r → r ≡ Ok made → L.holds x made
   made_kept x (Err errno) made keeps is = absurd (cc)
   made_kept x (Ok other) made keeps is = let same : other ≡ made = cc in subst (λ (d : CoreState). L.holds x d) same keeps
 
-  ns_push_keeps : (x : X) (c : CoreState) → L.holds x c → (end : ℕ) (bytes : List ℕ) → L.holds (L.moved x (ns_push c end bytes).seqs) (ns_push c end bytes).core
+  pub ns_push_keeps : (x : X) (c : CoreState) → L.holds x c → (end : ℕ) (bytes : List ℕ) → L.holds (L.moved x (ns_push c end bytes).seqs) (ns_push c end bytes).core
   unfolding ns_push
   ns_push_keeps x c k end bytes =
       elim (end_of c.objects end) as (λ o. L.holds (L.moved x (push_from c end bytes o).seqs) (push_from c end bytes o).core) [
@@ -674,7 +674,7 @@ module _ (X : Type 0) (L : Kept X) where
             swept_kept (L.moved x outcome.seqs) outcome.core keeps.kept
       ]
 
-  ns_take_keeps : (x : X) (c : CoreState) → L.holds x c → (id : ℕ) → L.holds (L.moved x (ns_take c id).seqs) (ns_take c id).core
+  pub ns_take_keeps : (x : X) (c : CoreState) → L.holds x c → (id : ℕ) → L.holds (L.moved x (ns_take c id).seqs) (ns_take c id).core
   unfolding ns_take
   ns_take_keeps x c k id =
       let P : Option ChannelEnd → Type 0 = λ o. end_of c.objects id ≡ o → L.holds (L.moved x (take_from c id o).seqs) (take_from c id o).core in
@@ -698,7 +698,7 @@ module _ (X : Type 0) (L : Kept X) where
   marked_kept x c k true end =
       elim (peer_of (end_of c.objects end)) as (λ o. L.holds x (peer_marked o c)) [ None ↦ k | Some peer ↦ end_kept x c k with_error (λ e. refl) (λ e. refl) peer ]
 
-  ns_drop_kept : (x : X) (c : CoreState) → L.holds x c → (broken : Bool) (end : ℕ) → L.holds x (ns_drop broken end c)
+  pub ns_drop_kept : (x : X) (c : CoreState) → L.holds x c → (broken : Bool) (end : ℕ) → L.holds x (ns_drop broken end c)
   unfolding ns_drop
   ns_drop_kept x c k broken end =
       let marked : CoreState = marked_if broken end c in

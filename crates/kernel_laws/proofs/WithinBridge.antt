@@ -75,9 +75,12 @@ made_within : (r : Result CoreState Errno) (made : CoreState) → MadeWithin r �
 made_within (Err errno) made within is = absurd (cc)
 made_within (Ok other) made within is = let same : other ≡ made = cc in subst (λ (d : CoreState). WithinCore d) same within
 
+pub connected_within : (c made : CoreState) (path : List ℕ) → WithinCore c → ns_connect c path ≡ Ok made → WithinCore made
+connected_within c made path w is = made_within (ns_connect c path) made (ns_connect_within c w path) is
+
 -- Messages, and ends that the bridge names no more.
 
-ns_push_within : (c : CoreState) → WithinCore c → (end : ℕ) (bytes : List ℕ) → length bytes ≤ (ns_view c end).size → WithinCore (ns_push c end bytes).core
+pub ns_push_within : (c : CoreState) → WithinCore c → (end : ℕ) (bytes : List ℕ) → length bytes ≤ (ns_view c end).size → WithinCore (ns_push c end bytes).core
 unfolding ns_push ns_view
 ns_push_within c w end bytes few =
     let P : Option ChannelEnd → Type 0 = λ o. end_of c.objects end ≡ o → length bytes ≤ (view_of c o).size → WithinCore (push_from c end bytes o).core in
@@ -89,7 +92,7 @@ ns_push_within c w end bytes few =
     let go : (o : Option ChannelEnd) → P o = λ o. elim o as (λ v. P v) [ None ↦ (λ is le. w) | Some from ↦ pushed from ] in
     go (end_of c.objects end) refl few
 
-ns_take_within : (c : CoreState) → WithinCore c → (id : ℕ) → WithinCore (ns_take c id).core
+pub ns_take_within : (c : CoreState) → WithinCore c → (id : ℕ) → WithinCore (ns_take c id).core
 unfolding ns_take
 ns_take_within c w id =
     elim (end_of c.objects id) as (λ o. WithinCore (take_from c id o).core) [
@@ -113,7 +116,7 @@ marked_within c w true end =
       | Some peer ↦ within_changed (on_end with_error) (keeps_end with_error error_within) c.objects w peer
     ]
 
-ns_drop_within : (c : CoreState) → WithinCore c → (broken : Bool) (end : ℕ) → WithinCore (ns_drop broken end c)
+pub ns_drop_within : (c : CoreState) → WithinCore c → (broken : Bool) (end : ℕ) → WithinCore (ns_drop broken end c)
 unfolding ns_drop
 ns_drop_within c w broken end = swept_within _ (marked_within c w broken end)
 

@@ -33,7 +33,7 @@ use Rattle.kernel_laws.proofs.WithinChannels.{send_fine, get_fine, read_fine, pu
 use Rattle.kernel_laws.proofs.WithinConnections.{FineIfIn, FineIf, port_fine, connect_fine, accept_fine, end_of_wait_fine}
 use Rattle.kernel_laws.proofs.Worlds.{ActsIf, Inboxes, InboxesOf, begin_acts, resume_of_acts}
 
-idle_within : (c : CoreState) → WithinCore c → (deadline : Option ℕ) → WithinCore (core_idle deadline c)
+pub idle_within : (c : CoreState) → WithinCore c → (deadline : Option ℕ) → WithinCore (core_idle deadline c)
 unfolding core_idle
 idle_within c w None = w
 idle_within c w (Some deadline) = w

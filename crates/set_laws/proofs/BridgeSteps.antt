@@ -61,7 +61,7 @@ abbrev pub IfCome : (CoreState → Type 0) → Option Outcome → Type 0
 IfCome P None = Unit {0}
 IfCome P (Some outcome) = P outcome.core
 
-abbrev IfMade : (CoreState → Type 0) → Result CoreState Errno → Type 0
+abbrev pub IfMade : (CoreState → Type 0) → Result CoreState Errno → Type 0
 IfMade P (Ok made) = P made
 IfMade P (Err errno) = Unit {0}
 
@@ -95,7 +95,7 @@ module _ (P : CoreState → Type 0) (k : BridgeKeeps P) where
       ]
   connect_by_keeps c p path to_nothing = tt
 
-  connect_keeps : (c : CoreState) → P c → (path : List ℕ) → IfMade P (ns_connect c path)
+  pub connect_keeps : (c : CoreState) → P c → (path : List ℕ) → IfMade P (ns_connect c path)
   unfolding ns_connect
   connect_keeps c p path = connect_by_keeps c p path (way_of c path)
 
@@ -117,7 +117,7 @@ module _ (P : CoreState → Type 0) (k : BridgeKeeps P) where
       let done : Outcome = deliver c end from.peer (peer_end c.objects from.peer) bytes [] in
       k.sweeps done.core (deliver_keeps c p end from.peer (peer_end c.objects from.peer) bytes).kept
 
-  push_keeps : (c : CoreState) → P c → (end : ℕ) (bytes : List ℕ) → P (ns_push c end bytes).core
+  pub push_keeps : (c : CoreState) → P c → (end : ℕ) (bytes : List ℕ) → P (ns_push c end bytes).core
   unfolding ns_push
   push_keeps c p end bytes = push_to_keeps c p end bytes (end_of c.objects end)
 
@@ -155,7 +155,7 @@ module _ (P : CoreState → Type 0) (k : BridgeKeeps P) where
       let after : CoreState = (put_from there id number (end_of there.objects id)).core in
       k.sweeps after (put_keeps there (get_message_keeps c p id end (find is_filled end.messages)).kept id number (end_of there.objects id))
 
-  take_keeps : (c : CoreState) → P c → (end : ℕ) → P (ns_take c end).core
+  pub take_keeps : (c : CoreState) → P c → (end : ℕ) → P (ns_take c end).core
   unfolding ns_take
   take_keeps c p end = take_from_keeps c p end (end_of c.objects end)
 
@@ -169,7 +169,7 @@ module _ (P : CoreState → Type 0) (k : BridgeKeeps P) where
   marked_if_keeps c p true end = marked_keeps c p (peer_of (end_of c.objects end))
   marked_if_keeps c p false end = p
 
-  drop_keeps : (c : CoreState) → P c → (is_broken : Bool) (end : ℕ) → P (ns_drop is_broken end c)
+  pub drop_keeps : (c : CoreState) → P c → (is_broken : Bool) (end : ℕ) → P (ns_drop is_broken end c)
   unfolding ns_drop
   drop_keeps c p is_broken end =
       let marked : CoreState = marked_if is_broken end c in

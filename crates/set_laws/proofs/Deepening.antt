@@ -22,11 +22,11 @@ use Rattle.kernel_types.specs.Tables.{entry_at, table_of}
 use Rattle.kernel_laws.proofs.Found.{found}
 use Rattle.kernel_laws.proofs.Starts.{same_ended, same_idle, same_started}
 use Rattle.set_laws.specs.Chains.{HasMember, HasShortChains, NamesGivenNumbers}
-use Rattle.set_laws.proofs.BridgeSteps.{IfStepped}
+use Rattle.set_laws.proofs.BridgeSteps.{BridgeKeeps, IfStepped}
 use Rattle.set_laws.proofs.Adding.{adding_keeps_short, membership_before}
 use Rattle.set_laws.proofs.Shrinking.{Deep, Shrunk, deep_added, deep_by, deep_new_set, deep_published, same_set, shrunk_changed, shrunk_filtered, shrunk_mapped}
 use Rattle.set_laws.proofs.Lessening.{shrunk_last}
-use Rattle.set_laws.proofs.Walk.{Kept, step_keeps}
+use Rattle.set_laws.proofs.Walk.{Kept, bridge_keeps, step_keeps}
 
 abbrev Given : CoreState → Type 0
 Given c = (a b : ℕ) → HasMember c.objects a b → b < c.next
@@ -83,6 +83,13 @@ deepening = record {
   idled = λ c k deadline. same_deep c (core_idle deadline c) (same_idle c deadline) k;
   bridges = λ c k ends. record { short = k.short; given = k.given };
 }
+
+pub deep_bridged : BridgeKeeps Deep
+unfolding deepening
+deep_bridged = bridge_keeps deepening
+
+pub deep_idled : (c : CoreState) (clock : Option ℕ) → Deep c → Deep (core_idle clock c)
+deep_idled c clock deep = same_deep c (core_idle clock c) (same_idle c clock) deep
 
 stepped_short : (o : Option Stepped) (r : Stepped) → o ≡ Some r → IfStepped Deep o → HasShortChains r.state.core.objects
 stepped_short None r is k = absurd (cc)

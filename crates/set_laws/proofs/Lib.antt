@@ -14,3 +14,4 @@ pub mod NamingWaits
 pub mod NamingConnections
 pub mod NamingSteps
 pub mod Soundness
+pub mod Bridging

@@ -31,7 +31,7 @@ use Rattle.set_laws.proofs.NamingCalls.{Given, add_names, close_names, cookie_na
 use Rattle.set_laws.proofs.NamingConnections.{NamesIf, accept_names, client_named, connect_names, end_of_wait_names, pair_named, port_names}
 use Rattle.set_laws.proofs.NamingWaits.{exit_names, finish_names, started_next, wait_any_names, wait_names}
 
-swept_named : (c : CoreState) → Given c → Given (sweep c)
+pub swept_named : (c : CoreState) → Given c → Given (sweep c)
 unfolding sweep pruned kept
 swept_named c k =
     let n : ℕ = c.next in
@@ -127,7 +127,7 @@ cancelled_below n (activity.Running start) below = below
 cancelled_below n (activity.Waiting start wait) below = below
 cancelled_below n (activity.Ended start) below = below
 
-idled_next : (c : CoreState) → Given c → (deadline : Option ℕ) → Given (core_idle deadline c)
+pub idled_next : (c : CoreState) → Given c → (deadline : Option ℕ) → Given (core_idle deadline c)
 unfolding core_idle
 idled_next c k None = record {
   tables = k.tables;
@@ -160,7 +160,7 @@ unbridged_named c k end = record {
   objects = k.objects;
 }
 
-bridge_names : BridgeKeeps Given
+pub bridge_names : BridgeKeeps Given
 bridge_names = record {
   sweeps = λ c k. swept_named c k;
   pairs = λ c k id port.

@@ -99,7 +99,7 @@ in_set : (n b : ℕ) (o : Option HandleSet) → IfThere (λ (set : HandleSet). M
 in_set n b None all is = absurd (cc)
 in_set n b (Some set) all is = in_members n b set.members all is
 
-given_numbers : (c : CoreState) → Given c → NamesGivenNumbers c
+pub given_numbers : (c : CoreState) → Given c → NamesGivenNumbers c
 given_numbers c k = record {
   entries = λ app handle entry is. all_find (λ (e : TableEntry). e.object < c.next) (λ e. e.handle == handle) (table_of c app) (table_named c.next c k app) entry is;
   members = λ set member holds. in_set c.next member (set_of c.objects set) (set_named c.next c k set) holds;

@@ -572,7 +572,7 @@ module _ (L : Kept) where
   come_kept None keeps = tt
   come_kept (Some outcome) keeps = keeps.kept
 
-  bridge_keeps : BridgeKeeps L.holds
+  pub bridge_keeps : BridgeKeeps L.holds
   bridge_keeps = record {
     sweeps = λ c k. swept_kept c k;
     pairs = λ c k id port.
