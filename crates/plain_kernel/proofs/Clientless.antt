@@ -1,25 +1,28 @@
 -- What the words of the whole state say where there are no clients.
-use Rattle.std.proofs.Common.{◌≡◌, ◌≤◌, ◌<◌, ◌∙◌, ap, sym, arith, ℕ, Bool, true, false, ◌&&◌, ◌||◌, cond, not, List, [], ◌++◌, map, length, Option, Some, None, refl, append-nil}
+use Rattle.std.proofs.Common.{◌≡◌, ◌<◌, ◌∙◌, ap, sym, arith, ℕ, Bool, true, false, ◌&&◌, ◌||◌, cond, not, List, [], ◌∷◌, map, length, Option, Some, None, refl, append-nil}
 use Rattle.std.proofs.lemmas.Bool.{ltb-false}
 use Rattle.std.proofs.lemmas.List.{length-map}
 use Rattle.std.proofs.lemmas.Option.{slice_get_cases, slice_get_past}
 use Rattle.std.specs.Prelude.{nat_lt, nat_le, slice_get}
 use Rattle.std.specs.List.{list_any, list_all}
 use Rattle.std.specs.Option.{option_map}
-use Rattle.kernel_values.specs.declared.entry.ActorStatus.{ActorStatus}
 use Rattle.kernel_values.specs.declared.entry.Event.{Event}
 use Rattle.kernel_values.specs.declared.entry.Event.TheVariants as event
+use Rattle.kernel_values.specs.declared.state.Activity.{Activity}
+use Rattle.kernel_values.specs.declared.state.Activity.TheVariants as activity
 use Rattle.kernel_values.specs.declared.state.CoreState.{CoreState}
+use Rattle.kernel_values.specs.declared.state.Thread.{Thread}
 use Rattle.kernel_values.specs.declared.call.Call.{Call}
 use Rattle.kernel_values.specs.declared.world.World.{World}
 use Rattle.kernel_types.specs.Built.{is_built}
-use Rattle.kernel_types.specs.CoreStep.{begin_of, core_begin, core_idle, core_resume, idle_answer, least_deadline, resume_of, sooner}
+use Rattle.kernel_types.specs.CoreStep.{begin_of, cancelled_activity, status_of, core_begin, core_idle, core_resume, idle_answer, least_deadline, resume_of, sooner}
 use Rattle.kernel_types.specs.Device.{device_step}
 use Rattle.kernel_types.specs.Facts.{is_client, is_at_end}
 use Rattle.kernel_types.specs.Waits.{may_move, thread_may_move, thread_movable}
 use Rattle.kernel_types.specs.Outcome.{Outcome, no_seqs}
 use Rattle.kernel_types.specs.Step.{Stepped, begin, beside_core, client_begin, client_number, client_resume, client_movable, device_has_work, device_stepped, full_step, has_begun_and_goes_on, idle, idle_lawful, idle_until, in_world, movable, next_deadline, resume, statuses, step, world_idle}
-use Rattle.kernel_types.specs.Sweep.{sweep}
+use Rattle.kernel_types.specs.Sweep.{kept, pruned, sweep}
+use Rattle.kernel_types.specs.Threads.{activity_changed}
 use Rattle.plain_kernel.specs.Alone.{core_statuses, core_idle_lawful, core_step}
 use Rattle.plain_kernel.specs.Shown.{outcome_if}
 use Rattle.plain_kernel.specs.Steps.{clientless, idle_outcome, stepped_if, whole}
@@ -52,10 +55,6 @@ both_ways false = refl
 pub alone_idle : (core : CoreState) (queue : ℕ) → idle_lawful (whole core queue) ≡ core_idle_lawful core
 unfolding idle_lawful core_idle_lawful clientless
 alone_idle core queue = rw (alone_statuses core queue, alone_device core queue, or_false (list_any (thread_may_move core) core.threads)) (last_false _)
-
--- a test of the core, as a test of the whole state
-pub idle_of_state : (core : CoreState) (queue : ℕ) (b : Bool) → b ≡ core_idle_lawful core → b ≡ idle_lawful (whole core queue)
-idle_of_state core queue b is = is ∙ sym (alone_idle core queue)
 
 pub alone_length : (core : CoreState) (queue : ℕ) → length (statuses (whole core queue)) ≡ length (core_statuses core)
 alone_length core queue = ap length (alone_statuses core queue)
@@ -142,3 +141,29 @@ told_alone (Some told) core world = refl
 pub alone_step : (told : Option Told) (core next : CoreState) (queue : ℕ) (e : Event) → outcome_if told next ≡ core_step core e
     → stepped_if told next (clientless queue) ≡ step (whole core queue) e
 alone_step told core next queue e is = told_alone told next (clientless queue) ∙ ap (option_map (in_world (clientless queue))) is ∙ sym (step_alone core queue e)
+
+-- where the threads stay, so do the statuses
+pub same_statuses : (c d : CoreState) → d.threads ≡ c.threads → core_statuses d ≡ core_statuses c
+unfolding core_statuses
+same_statuses c d same = ap (map (λ thread. status_of thread.activity)) same
+
+pub swept_threads : (c : CoreState) → (sweep c).threads ≡ c.threads
+unfolding sweep pruned kept
+swept_threads c = refl
+
+cancelled_status : (a : Activity) → status_of (cancelled_activity a) ≡ status_of a
+cancelled_status activity.Off = refl
+cancelled_status (activity.Running start) = refl
+cancelled_status (activity.Waiting start wait) = refl
+cancelled_status (activity.Ended start) = refl
+
+cancelled_statuses : (threads : List Thread) → map (λ thread. status_of thread.activity) (map (activity_changed cancelled_activity) threads) ≡ map (λ thread. status_of thread.activity) threads
+cancelled_statuses [] = refl
+cancelled_statuses (thread ∷ threads) = cc (cancelled_status thread.activity, cancelled_statuses threads)
+
+-- time that passes changes no status
+pub idled_statuses : (clock : Option ℕ) (c : CoreState) → core_statuses (sweep (core_idle clock c)) ≡ core_statuses c
+unfolding core_statuses core_idle
+idled_statuses None c =
+    same_statuses (core_idle None c) (sweep (core_idle None c)) (swept_threads (core_idle None c)) ∙ cancelled_statuses c.threads
+idled_statuses (Some clock) c = same_statuses (core_idle (Some clock) c) (sweep (core_idle (Some clock) c)) (swept_threads (core_idle (Some clock) c))

@@ -1,16 +1,28 @@
--- Every opening state is orderly, each step keeps it so, and its answer fits the room of its event.
-use Rattle.std.proofs.Common.{◌≡◌, ℕ, List, Some}
+-- Every opening state is orderly. Each step keeps it so, and its answer fits the room of its event; so do the calls of the bridge.
+use Rattle.std.proofs.Common.{◌≡◌, ◌≤◌, ℕ, Bool, List, Option, length}
+use Rattle.std.specs.Prelude.{Ok}
+use Rattle.std.proofs.lemmas.List.Elements.{All-from_recursion, recursion_from_All}
 use Rattle.kernel_values.specs.SceneLaw.{SceneValue}
 use Rattle.kernel_values.specs.declared.entry.Event.{Event}
 use Rattle.kernel_values.specs.declared.state.CoreState.{CoreState}
+use Rattle.kernel_values.specs.declared.state.Object.{Object}
 use Rattle.kernel_values.specs.declared.state.State.{State}
-use Rattle.kernel_types.specs.Limits.{FitsIn, room_of, IsWithinLimits}
+use Rattle.kernel_types.specs.Bridge.{ns_connect, ns_drop, ns_push, ns_take, ns_view}
+use Rattle.kernel_types.specs.Bridging.{with_core}
+use Rattle.kernel_types.specs.CoreStep.{core_idle}
+use Rattle.kernel_types.specs.Limits.{FitsIn, room_of, IsBodyWithin, IsWithinLimits}
 use Rattle.kernel_types.specs.Opening.{opening, opening_core, without_clients}
+use Rattle.kernel_types.specs.Sweep.{sweep}
 use Rattle.kernel_laws.proofs.Small.{opening_within, steps_fit, steps_within}
+use Rattle.kernel_laws.proofs.Within.{WithinCore}
+use Rattle.kernel_laws.proofs.WithinBridge.{connected_within, ns_drop_within, ns_push_within, ns_take_within, swept_within}
+use Rattle.kernel_laws.proofs.WithinSteps.{idle_within}
 use Rattle.set_laws.specs.Soundness.{IsSound}
+use Rattle.set_laws.proofs.Bridging.{connected_sound, dropped_sound, idled_sound, pushed_sound, taken_sound}
 use Rattle.set_laws.proofs.Circles.{no_circle}
 use Rattle.set_laws.proofs.Soundness.{openings_sound, steps_keep_sound}
 use Rattle.plain_kernel.specs.declared.kernel.Next.{Next}
+use Rattle.plain_kernel.specs.declared.told.Told.{Told}
 use Rattle.plain_kernel.specs.Orderly.{IsOrderly}
 use Rattle.plain_kernel.specs.Ready.{IsReady}
 use Rattle.plain_kernel.specs.Steps.{clientless, whole, stepped}
@@ -29,10 +41,39 @@ pub opened_orderly : (scene : SceneValue) (core : CoreState) → core ≡ openin
 unfolding opening clientless
 opened_orderly scene core core_is = rw core_is (opening_orderly (without_clients scene))
 
-pub next_orderly : (event : Event) (s : State) (made : ℕ) (next : Next) → IsReady event s made next → IsOrderly s → IsOrderly (record { core = next.core; world = s.world })
-next_orderly event s made next ready kept =
-    orderly (record { core = next.core; world = s.world }) (steps_within s event (stepped next.told next.core s.world) kept.within ready.step_is).0
-    (steps_keep_sound s event (stepped next.told next.core s.world) kept.sound ready.step_is)
+pub next_orderly : (event : Event) (s : State) (made : ℕ) (next : Next) (told : Told) → IsReady event s made next told → IsOrderly s → IsOrderly (with_core next.core s)
+next_orderly event s made next told ready kept =
+    orderly (with_core next.core s) (steps_within s event (stepped told next.core s.world) kept.within ready.step_is).0
+    (steps_keep_sound s event (stepped told next.core s.world) kept.sound ready.step_is)
 
-pub next_fits : (event : Event) (s : State) (made : ℕ) (next : Next) → IsReady event s made next → IsOrderly s → FitsIn (room_of s event) next.told.answer
-next_fits event s made next ready kept = steps_fit s event (stepped next.told next.core s.world) kept.within ready.step_is
+pub next_fits : (event : Event) (s : State) (made : ℕ) (next : Next) (told : Told) → IsReady event s made next told → IsOrderly s → FitsIn (room_of s event) told.answer
+next_fits event s made next told ready kept = steps_fit s event (stepped told next.core s.world) kept.within ready.step_is
+
+-- The calls of the bridge.
+
+inside : (s : State) → IsOrderly s → WithinCore s.core
+inside s kept = recursion_from_All (λ (object : Object). IsBodyWithin object.body) s.core.objects kept.within.objects
+
+within_by : (s : State) (c : CoreState) → IsOrderly s → WithinCore c → IsWithinLimits (with_core c s)
+within_by s c kept within = record { objects = All-from_recursion (λ (object : Object). IsBodyWithin object.body) c.objects within; inboxes = kept.within.inboxes }
+
+pub connected_orderly : (s : State) (made : CoreState) (path : List ℕ) → ns_connect s.core path ≡ Ok made → IsOrderly s → IsOrderly (with_core made s)
+connected_orderly s made path is kept =
+    orderly (with_core made s) (within_by s made kept (connected_within s.core made path (inside s kept) is)) (connected_sound s made path kept.sound is)
+
+pub pushed_orderly : (s : State) (end : ℕ) (bytes : List ℕ) → length bytes ≤ (ns_view s.core end).size → IsOrderly s → IsOrderly (with_core (ns_push s.core end bytes).core s)
+pushed_orderly s end bytes few kept =
+    orderly (with_core (ns_push s.core end bytes).core s) (within_by s (ns_push s.core end bytes).core kept (ns_push_within s.core (inside s kept) end bytes few)) (pushed_sound s end bytes kept.sound)
+
+pub taken_orderly : (s : State) (end : ℕ) → IsOrderly s → IsOrderly (with_core (ns_take s.core end).core s)
+taken_orderly s end kept =
+    orderly (with_core (ns_take s.core end).core s) (within_by s (ns_take s.core end).core kept (ns_take_within s.core (inside s kept) end)) (taken_sound s end kept.sound)
+
+pub dropped_orderly : (s : State) (broken : Bool) (end : ℕ) → IsOrderly s → IsOrderly (with_core (ns_drop broken end s.core) s)
+dropped_orderly s broken end kept =
+    orderly (with_core (ns_drop broken end s.core) s) (within_by s (ns_drop broken end s.core) kept (ns_drop_within s.core (inside s kept) broken end)) (dropped_sound s broken end kept.sound)
+
+pub idled_orderly : (s : State) (clock : Option ℕ) → IsOrderly s → IsOrderly (with_core (sweep (core_idle clock s.core)) s)
+idled_orderly s clock kept =
+    orderly (with_core (sweep (core_idle clock s.core)) s)
+    (within_by s (sweep (core_idle clock s.core)) kept (swept_within (core_idle clock s.core) (idle_within s.core (inside s kept) clock))) (idled_sound s clock kept.sound)

@@ -1,5 +1,5 @@
 -- What a kernel without clients does and tells, by its core alone.
-use Rattle.std.specs.Prelude.{ℕ, Bool, List, ◌&&◌, not, map, Option, Some, None, if◌then◌else◌}
+use Rattle.std.specs.Prelude.{Bool, List, ◌&&◌, not, map, Option, Some, None, if◌then◌else◌}
 use Rattle.std.specs.List.{list_any}
 use Rattle.kernel_values.specs.declared.entry.ActorStatus.{ActorStatus}
 use Rattle.kernel_values.specs.declared.entry.Event.{Event}

@@ -1,8 +1,18 @@
 -- What a kernel stands for.
-use Rattle.std.specs.Prelude.{ℕ}
+use Rattle.std.specs.Prelude.{◌≡◌, ℕ, [], refl}
+use Rattle.kernel_values.specs.declared.state.CoreState.{CoreState}
 use Rattle.kernel_values.specs.declared.state.State.{State}
+use Rattle.plain_kernel.specs.Steps.{clientless, whole}
 
--- a state, and the number of steps made
+-- the core of a state without clients, the size with which its queues began, and the number of steps made
 pub record Standing : Type 0 where
-  pub state : State
+  pub core : CoreState
+  pub queue : ℕ
   pub made : ℕ
+
+abbrev pub state_of : Standing → State
+state_of standing = whole standing.core standing.queue
+
+pub no_client : (standing : Standing) → (state_of standing).world.clients ≡ []
+unfolding clientless
+no_client standing = refl

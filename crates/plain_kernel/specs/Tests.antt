@@ -6,6 +6,7 @@ use Rattle.kernel_values.specs.declared.state.CoreState.{CoreState}
 use Rattle.kernel_values.specs.declared.state.TableEntry.{TableEntry}
 use Rattle.kernel_types.specs.Objects.{end_of}
 use Rattle.kernel_types.specs.Sweep.{has_marked_peer}
+use Rattle.kernel_types.specs.Reach.{is_in}
 use Rattle.kernel_types.specs.Reports.{is_after, in_turn, last_of, has_events}
 use Rattle.kernel_types.specs.Tables.{table_of, entry_at}
 use Rattle.kernel_types.specs.Messages.{is_opened_as, is_unconnected, part_limit, entry_object, send_parts}
@@ -25,6 +26,10 @@ use Rattle.kernel_values.specs.declared.state.Port.{Port}
 -- whether the peer of a pending server end is marked
 unfoldable pub is_served : List ℕ → List Object → ℕ → Bool
 is_served marked objects server = has_marked_peer marked (end_of objects server)
+
+-- whether the object is marked
+unfoldable pub is_kept : List ℕ → Object → Bool
+is_kept marked object = is_in marked object.id
 
 unfoldable pub is_later_entry : Option ℕ → TableEntry → Bool
 is_later_entry last entry = is_after last entry

@@ -32,7 +32,7 @@ fn is_asynchronous(flags: ConnectFlags) -> bool
     flags.0 & 2 != 0
 }
 
-fn may_serve(app: &Application) -> bool
+pub fn may_serve(app: &Application) -> bool
     ensures { result ≡ may_serve app.now }
 {
     app.running || has_start_left(app)
@@ -52,19 +52,23 @@ fn add_pending(core: &mut CoreState, port: u64, server: u64) -> Result<(), NoMem
 }
 
 /// A client end and its server end, which is pending at the port.
-fn add_pair(core: &mut CoreState, app: u32, id: u64, port: &Port) -> Result<(), NoMemory>
-    ensures { OnOk result (core.new ≡ pending_pair (connector.App app) id port.now core.old) }
+pub fn add_pair(
+    core: &mut CoreState,
+    maker: Connector,
+    id: u64,
+    port: &Port,
+) -> Result<(), NoMemory>
+    ensures { OnOk result (core.new ≡ pending_pair maker id port.now core.old) }
 {
     let alloc = core.objects.allocator();
     let client = core.next;
     let server = later(client, 1)?;
-    let maker = Some(Connector::App(app));
     let end = new_end(
         alloc,
         Some(server),
         EndState::Connecting,
         None,
-        maker,
+        Some(maker),
         port.bufs,
         port.size,
     );
@@ -74,17 +78,16 @@ fn add_pair(core: &mut CoreState, app: u32, id: u64, port: &Port) -> Result<(), 
 }
 
 /// A client end that waits for a port of this path.
-fn add_waiting(core: &mut CoreState, app: u32, path: &Bytes) -> Result<(), NoMemory>
-    ensures { OnOk result (core.new ≡ waiting_client (connector.App app) path.now core.old) }
+pub fn add_waiting(core: &mut CoreState, maker: Connector, path: &Bytes) -> Result<(), NoMemory>
+    ensures { OnOk result (core.new ≡ waiting_client maker path.now core.old) }
 {
     let alloc = core.objects.allocator();
-    let maker = Some(Connector::App(app));
     let end = new_end(
         alloc,
         None,
         EndState::Waiting,
         Some(path.copied()?),
-        maker,
+        Some(maker),
         0,
         0,
     );
@@ -130,12 +133,12 @@ fn connect_to_port(
     }
     let end = core.next;
     let handle = least_free_handle(table_of(core, app));
-    add_pair(core, app, id, port)?;
+    add_pair(core, Connector::App(app), id, port)?;
     connected(core, thread, app, flags, end, handle)
 }
 
 /// The application at a place is started, where it does not run.
-fn start_unless_running(core: &mut CoreState, place: u32) -> Result<(), NoMemory>
+pub fn start_unless_running(core: &mut CoreState, place: u32) -> Result<(), NoMemory>
     ensures { OnOk result (core.new ≡ started_unless_running place (slice_get core.old.apps place) core.old) }
 {
     let is_idle = match core.apps.get(place as usize) {
@@ -160,7 +163,7 @@ fn connect_at_start(
 {
     let end = core.next;
     let handle = least_free_handle(table_of(core, app));
-    add_waiting(core, app, path)?;
+    add_waiting(core, Connector::App(app), path)?;
     connected(core, thread, app, flags, end, handle)
 }
 

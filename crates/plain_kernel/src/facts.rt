@@ -7,6 +7,7 @@ ghost use Rattle.plain_kernel.specs.Alone.{core_statuses};
 ghost use Rattle.plain_kernel.specs.Tests.{names_on};
 ghost use Rattle.kernel_types.specs.Names.{naming};
 ghost use Rattle.kernel_types.specs.Facts.{facts_of};
+ghost use Rattle.kernel_laws.specs.Numbers.{RisesFrom};
 ghost use Rattle.std.specs.List.{list_any, list_all};
 
 use crate::names::{Naming, count_names};
@@ -50,30 +51,30 @@ fn names_on(names: &[Naming], object: &Object) -> u64
     count_names(names, object.id) as u64
 }
 
-fn sum_names(names: &[Naming], objects: &[Object]) -> Result<u64, NoMemory>
-    ensures { IfOk result (λ sum. sum ≡ sum_by (names_on names.now) objects.now) }
+/// The sum of the names of objects whose numbers are distinct is at most the number of names.
+fn sum_names(names: &[Naming], objects: &[Object], next: u64) -> u64
+    requires { RisesFrom 0 objects.now next }
+    ensures { result ≡ sum_by (names_on names.now) objects.now }
 {
     let mut sum: u64 = 0;
     for object in objects {
-        let Some(more) = sum.checked_add(names_on(names, object)) else {
-            return Err(NoMemory);
-        };
-        sum = more;
+        sum += names_on(names, object);
     }
-    Ok(sum)
+    sum
 }
 
 /// The clock, the number of objects, and the sum of their names.
 #[tactic(auto, unfolding(crate::specs::Tests::names_on))]
-pub fn facts_of(core: &CoreState, names: &[Naming]) -> Result<EndFacts, NoMemory>
-    requires { names.now ≡ naming core.now }
-    ensures { IfOk result (λ facts. facts ≡ facts_of core.now) }
+pub fn facts_of(core: &CoreState, names: &[Naming]) -> EndFacts
+    requires numbers { RisesFrom 0 core.now.objects core.now.next }
+    requires names { names.now ≡ naming core.now }
+    ensures { result ≡ facts_of core.now }
 {
-    Ok(EndFacts {
+    EndFacts {
         clock: core.clock,
         objects: core.objects.len() as u64,
-        names: sum_names(names, core.objects.as_slice())?,
-    })
+        names: sum_names(names, core.objects.as_slice(), core.next),
+    }
 }
 
 fn goes_on(status: ActorStatus) -> bool

@@ -1,27 +1,33 @@
 //! The plain kernel.
 
-ghost use Rattle.std.specs.Prelude.{IfOk, ◌≡◌, IfErr};
-ghost use Rattle.kernel_types.specs.Names.{naming};
-ghost use Rattle.kernel_types.specs.Facts.{facts_of};
-ghost use Rattle.kernel_types.specs.Step.{idle_lawful, step};
-ghost use Rattle.plain_kernel.specs.Steps.{stepped_if};
-ghost use Rattle.plain_kernel.specs.Alone.{core_statuses, core_idle_lawful};
+ghost use Rattle.std.specs.Prelude.{IfOk, ◌≡◌, IfErr, ◌<◌, ◌+◌, Ok, false};
+ghost use Rattle.kernel_types.specs.Bridge.{ns_connect, ns_push, ns_view};
+ghost use Rattle.kernel_types.specs.Bridging.{NsCauseHolds};
+ghost use Rattle.kernel_types.specs.Step.{step};
+ghost use Rattle.plain_kernel.specs.Steps.{stepped_if, clientless, whole};
+ghost use Rattle.plain_kernel.specs.Alone.{core_idle_lawful};
+ghost use Rattle.plain_kernel.specs.Bridged.{pushed};
 ghost use Rattle.kernel_types.specs.Opening.{opening, without_clients};
-ghost use Rattle.kernel_types.specs.Kernel.{status_for, CauseHolds};
-ghost use Rattle.plain_kernel.specs.Ready.{IsReady};
+ghost use Rattle.kernel_types.specs.Kernel.{status_for, CauseHolds, step_limit};
+ghost use Rattle.plain_kernel.specs.Orderly.{IsOrderly};
+ghost use Rattle.plain_kernel.specs.Ready.{IsReady, IsListed};
+ghost use Rattle.plain_kernel.specs.Standing.{state_of, no_client};
 
+use crate::bridge;
 use crate::events::events_of;
 use crate::facts::{any_goes_on, any_runs, facts_of, none_goes_on, statuses_of};
-use crate::names::{Naming, count_names, names_in};
+use crate::names::count_names;
 use crate::objects::is_object_there;
 use crate::opening::opening_core;
-use crate::step::run_event;
+use crate::step::{idle_by, least_deadline, run_event};
+use crate::survey::Survey;
+use crate::sweep::sweep_within;
 use crate::told::Told;
 use crate::waits::{any_may_move, is_movable};
-use kernel_types::{IpcKernel, StepCause, StepRefused};
+use kernel_types::{Core, EndView, IpcKernel, NsRefused, StepCause, StepRefused};
 use kernel_values::{
-    ActorId, ActorStatus, Copied, CoreState, EndFacts, Entry, Event, Events, Items, NoMemory,
-    ObjId, Scene,
+    ActorId, ActorStatus, Bytes, Copied, CoreState, EndFacts, EndSeq, Entry, Event, Events, Items,
+    NoMemory, ObjId, Scene,
 };
 use std::alloc::Global;
 use std::marker::Model;
@@ -32,54 +38,45 @@ use std::marker::Model;
 pub struct PlainKernel {
     core: CoreState,
     queue: u32,
-    names: Items<Naming>,
-    facts: EndFacts,
+    /// What names objects, with room for a sweep that takes no memory.
+    survey: Survey,
     actors: Items<ActorStatus>,
     made: u32,
 }
 
 impl Model for PlainKernel {
-    ghost use Rattle.std.specs.Prelude.{◌≡◌};
+    ghost use Rattle.std.specs.Prelude.{◌≡◌, ◌≤◌, length};
     ghost use Rattle.plain_kernel.specs.Orderly.{IsOrderly};
     ghost use Rattle.plain_kernel.specs.Standing.{Standing};
     ghost use Rattle.plain_kernel.specs.Steps.{whole};
     ghost use Rattle.kernel_types.specs.Names.{naming};
-    ghost use Rattle.kernel_types.specs.Facts.{facts_of};
     ghost use Rattle.plain_kernel.specs.Alone.{core_statuses};
 
     ghost Value = { Standing };
 
-    ghost view = { λ k. record { state = whole k.core k.queue; made = k.made } };
+    ghost view = { λ k. record { core = k.core; queue = k.queue; made = k.made } };
 
-    ghost invariant = { λ k. (k.names ≡ naming k.core) × (k.facts ≡ facts_of k.core) × (k.actors ≡ core_statuses k.core) × IsOrderly (whole k.core k.queue) };
+    ghost invariant = { λ k. (k.survey.names ≡ naming k.core) × (length (naming k.core) ≤ k.survey.room) × (k.actors ≡ core_statuses k.core) × IsOrderly (whole k.core k.queue) };
 }
 
-/// A state after a step, with what is told of it and of the step.
+/// A state after a step, with what is told of it.
 #[derive(Debug, Drop)]
 struct Next {
     core: CoreState,
-    names: Items<Naming>,
-    facts: EndFacts,
+    survey: Survey,
     statuses: Items<ActorStatus>,
-    told: Told,
 }
 
-fn ready(core: CoreState, told: Told) -> Result<Next, NoMemory>
+fn ready(core: CoreState) -> Result<Next, NoMemory>
     ensures core_is { IfOk result (λ next. next.core ≡ core) }
-    ensures told_is { IfOk result (λ next. next.told ≡ told) }
-    ensures names_are { IfOk result (λ next. next.names ≡ naming core) }
-    ensures facts_are { IfOk result (λ next. next.facts ≡ facts_of core) }
-    ensures statuses_are { IfOk result (λ next. next.statuses ≡ core_statuses core) }
+    ensures listed { IfOk result (λ next. IsListed next) }
 {
-    let names = names_in(&core)?;
-    let facts = facts_of(&core, names.as_slice())?;
+    let survey = Survey::of(&core)?;
     let statuses = statuses_of(&core)?;
     Ok(Next {
         core,
-        names,
-        facts,
+        survey,
         statuses,
-        told,
     })
 }
 
@@ -87,27 +84,39 @@ impl PlainKernel {
     /// A kernel in the state in which the scene begins without its clients.
     #[tactic(auto, unfolding(kernel_types::specs::Opening::opening, crate::specs::Steps::clientless))]
     pub fn new(alloc: Global, scene: &Scene) -> Result<PlainKernel, NoMemory>
-        ensures state_is { IfOk result (λ kernel. kernel.state ≡ opening (without_clients scene.now)) }
+        ensures state_is { IfOk result (λ kernel. state_of kernel ≡ opening (without_clients scene.now)) }
         ensures made_is { IfOk result (λ kernel. kernel.made ≡ 0) }
     {
-        let core = opening_core(alloc, scene.apps.as_slice())?;
-        let names = names_in(&core)?;
-        let facts = facts_of(&core, names.as_slice())?;
-        let statuses = statuses_of(&core)?;
+        let next = ready(opening_core(alloc, scene.apps.as_slice())?)?;
         Ok(PlainKernel {
-            core,
+            core: next.core,
             queue: scene.queue,
-            names,
-            facts,
-            actors: statuses,
+            survey: next.survey,
+            actors: next.statuses,
             made: 0,
         })
     }
 
-    #[tactic(auto, using(crate::proofs::Clientless::idle_of_state), unfolding(crate::specs::Alone::core_idle_lawful))]
+    /// One more step is made, to this state, which is orderly because the one before was.
+    #[tactic(auto, unfolding(kernel_types::specs::Kernel::step_limit))]
+    fn move_to(&mut self, next: Next)
+        requires listed { IsListed next }
+        requires orderly { IsOrderly (state_of self.old) → IsOrderly (whole next.core self.old.queue) }
+        requires below { self.old.made < step_limit }
+        ensures before { IsOrderly (state_of self.old) }
+        ensures core { self.new.core ≡ next.core }
+        ensures queue { self.new.queue ≡ self.old.queue }
+        ensures made { self.new.made ≡ self.old.made + 1 }
+    {
+        self.core = next.core;
+        self.survey = next.survey;
+        self.actors = next.statuses;
+        self.made += 1;
+    }
+
+    #[tactic(auto, unfolding(crate::specs::Alone::core_idle_lawful))]
     fn is_idle(&self) -> bool
-        ensures core { result ≡ core_idle_lawful self.now.state.core }
-        ensures whole { result ≡ idle_lawful self.now.state }
+        ensures { result ≡ core_idle_lawful self.now.core }
     {
         any_goes_on(self.actors.as_slice())
             && !any_runs(self.actors.as_slice())
@@ -116,7 +125,7 @@ impl PlainKernel {
 
     #[tactic(auto, using(crate::proofs::Clientless::alone_statuses))]
     fn status_for(&self, event: &Event) -> Option<ActorStatus>
-        ensures { result ≡ status_for self.now.state event.now }
+        ensures { result ≡ status_for (state_of self.now) event.now }
     {
         match event {
             Event::Begin {
@@ -132,7 +141,7 @@ impl PlainKernel {
     #[tactic(auto, using(crate::proofs::Clientless::alone_step))]
     /// What the event tells in a copy of the state, with the copy.
     fn try_event(&self, event: &Event) -> Result<(CoreState, Option<Told>), NoMemory>
-        ensures { IfOk result (λ (core, told). stepped_if told core self.now.state.world ≡ step self.now.state event.now) }
+        ensures { IfOk result (λ (core, told). stepped_if told core (clientless self.now.queue) ≡ step (state_of self.now) event.now) }
     {
         let is_idle = self.is_idle();
         let mut core = self.core.copied()?;
@@ -141,9 +150,9 @@ impl PlainKernel {
     }
 
     #[tactic(auto, unfolding(kernel_types::specs::Kernel::step_limit))]
-    fn try_step(&self, event: &Event) -> Result<Next, StepCause>
-        ensures done { IfOk result (λ next. IsReady event.now self.now.state self.now.made next) }
-        ensures refused { IfErr result (λ cause. CauseHolds event.now self.now.state self.now.made cause) }
+    fn try_step(&self, event: &Event) -> Result<(Next, Told), StepCause>
+        ensures done { IfOk result (λ (next, told). IsReady event.now (state_of self.now) self.now.made next told) }
+        ensures refused { IfErr result (λ cause. CauseHolds event.now (state_of self.now) self.now.made cause) }
     {
         let Ok((core, told)) = self.try_event(event) else {
             return Err(StepCause::NoMemory);
@@ -154,15 +163,45 @@ impl PlainKernel {
         if self.made == u32::MAX {
             return Err(StepCause::Full);
         }
-        match ready(core, told) {
-            Ok(next) => Ok(next),
+        match ready(core) {
+            Ok(next) => Ok((next, told)),
             Err(_) => Err(StepCause::NoMemory),
         }
+    }
+
+    /// The state after a connect of the normal world.
+    fn try_connect(&self, path: &Bytes) -> Result<Next, NsRefused>
+        ensures done { IfOk result (λ next. IsListed next × (ns_connect self.now.core path.now ≡ Ok next.core)) }
+        ensures refused { IfErr result (λ refused. NsCauseHolds path.now (state_of self.now) refused) }
+    {
+        let Ok(mut core) = self.core.copied() else {
+            return Err(NsRefused::NoMemory);
+        };
+        match bridge::connect(&mut core, path) {
+            Ok(None) => {}
+            Ok(Some(errno)) => return Err(NsRefused::Errno(errno)),
+            Err(_) => return Err(NsRefused::NoMemory),
+        }
+        match ready(core) {
+            Ok(next) => Ok(next),
+            Err(_) => Err(NsRefused::NoMemory),
+        }
+    }
+
+    /// The state after a message of the normal world was sent.
+    fn try_push(&self, end: u64, bytes: &Bytes) -> Result<(Next, EndSeq), NoMemory>
+        requires { (ns_view self.now.core end).peer_full ≡ false }
+        ensures { IfOk result (λ (next, sent). IsListed next × (ns_push self.now.core end bytes.now ≡ pushed sent next.core)) }
+    {
+        let mut core = self.core.copied()?;
+        let sent = bridge::push(&mut core, end, bytes)?;
+        let next = ready(core)?;
+        Ok((next, sent))
     }
 }
 
 impl IpcKernel for PlainKernel {
-    ghost state = { λ k. k.state };
+    ghost state = { λ k. state_of k };
 
     ghost made = { λ k. k.made };
 
@@ -171,16 +210,12 @@ impl IpcKernel for PlainKernel {
     #[tactic(auto, unfolding(kernel_types::specs::Kernel::step_limit))]
     fn step(&mut self, event: Event) -> Result<Entry, StepRefused> {
         match self.try_step(&event) {
-            Ok(next) => {
-                self.core = next.core;
-                self.names = next.names;
-                self.facts = next.facts;
-                self.actors = next.statuses;
-                self.made += 1;
+            Ok((next, told)) => {
+                self.move_to(next);
                 Ok(Entry {
                     event,
-                    answer: next.told.answer,
-                    seqs: next.told.seqs,
+                    answer: told.answer,
+                    seqs: told.seqs,
                 })
             }
             Err(cause) => Err(StepRefused { event, cause }),
@@ -202,16 +237,15 @@ impl IpcKernel for PlainKernel {
 
     #[tactic(auto, using(crate::proofs::Clientless::alone_client))]
     fn is_client(&self, _actor: ActorId) -> bool {
-        let _queue = self.queue;
         false
     }
 
     #[tactic(auto, using(crate::proofs::Clientless::alone_device))]
     fn device_has_work(&self) -> bool {
-        let _queue = self.queue;
         false
     }
 
+    #[tactic(auto, using(crate::proofs::Clientless::alone_idle))]
     fn idle_lawful(&self) -> bool {
         self.is_idle()
     }
@@ -222,12 +256,12 @@ impl IpcKernel for PlainKernel {
     }
 
     fn end_facts(&self) -> EndFacts {
-        self.facts
+        facts_of(&self.core, self.survey.names())
     }
 
     fn names(&self, object: ObjId) -> Option<u64> {
         if is_object_there(self.core.objects.as_slice(), object.0) {
-            Some(count_names(self.names.as_slice(), object.0) as u64)
+            Some(count_names(self.survey.names(), object.0) as u64)
         } else {
             None
         }
@@ -241,4 +275,48 @@ impl IpcKernel for PlainKernel {
             None
         }
     }
+}
+
+impl Core for PlainKernel {
+    fn least_deadline(&self) -> Option<u64> {
+        least_deadline(&self.core)
+    }
+
+    #[tactic(auto, unfolding(kernel_types::specs::Kernel::step_limit))]
+    fn idle(&mut self, clock: Option<u64>) {
+        idle_by(&mut self.core, clock);
+        sweep_within(&mut self.core, &mut self.survey);
+        self.made += 1;
+    }
+
+    fn ns_connect(&mut self, path: &Bytes) -> Result<ObjId, NsRefused> {
+        let end = self.core.next;
+        let next = self.try_connect(path)?;
+        self.move_to(next);
+        Ok(ObjId(end))
+    }
+
+    fn ns_view(&self, end: ObjId) -> EndView {
+        bridge::view(&self.core, end.0)
+    }
+
+    fn ns_push(&mut self, end: ObjId, bytes: &Bytes) -> Result<EndSeq, NoMemory> {
+        let (next, sent) = self.try_push(end.0, bytes)?;
+        self.move_to(next);
+        Ok(sent)
+    }
+
+    fn ns_peek(&self, end: ObjId) -> Result<Bytes, NoMemory> {
+        bridge::peek(&self.core, end.0)
+    }
+
+    fn ns_take(&mut self, end: ObjId) -> EndSeq {
+        bridge::take(&mut self.core, &mut self.survey, end.0)
+    }
+
+    fn ns_drop(&mut self, end: ObjId, broken: bool) {
+        bridge::drop_end(&mut self.core, &mut self.survey, end.0, broken);
+    }
+
+    ghost has_no_clients = { no_client };
 }

@@ -1,9 +1,11 @@
 //! The plain kernel: the definitions of the model as a program, with lists and marking and no
-//! cleverness. Every step copies the state, changes the copy and puts it in place.
+//! cleverness. A step copies the state, changes the copy and puts it in place. Time that passes, and
+//! what the bridge takes or drops, cannot be refused: it changes the state in place, without memory.
 #![tactic(auto)]
 
 mod accepts;
 mod applications;
+mod bridge;
 mod connects;
 mod depths;
 mod ends;
@@ -15,6 +17,7 @@ pub mod kernel;
 mod memberships;
 mod memories;
 mod messages;
+mod name_counts;
 mod names;
 mod objects;
 mod opening;
@@ -25,6 +28,7 @@ mod reports;
 mod sends;
 mod sets;
 mod step;
+mod survey;
 mod sweep;
 mod tables;
 mod threads;

@@ -1,27 +1,31 @@
 //! What sets name, and whether one object is in another at any depth.
 
-ghost use Rattle.std.specs.Prelude.{IfOk, ◌≡◌, OnOk, ◌++◌};
-ghost use Rattle.kernel_types.specs.Sets.{member_objects, membership_names, memberships, is_or_contains};
+ghost use Rattle.std.specs.Prelude.{IfOk, ◌≡◌, OnOk, ◌++◌, map};
+ghost use Rattle.kernel_types.specs.Names.{held_by};
+ghost use Rattle.kernel_types.specs.Sets.{membership_names, memberships, is_or_contains};
 
-use crate::names::{Naming, add_all_held, member_objects};
-use crate::reach::{is_in, mark_reached};
-use kernel_values::{Body, Items, NoMemory, Object};
+use crate::names::Naming;
+use crate::reach::{is_in, reached};
+use kernel_values::{Body, Items, Member, NoMemory, Object};
 use std::alloc::Global;
 
-fn membership_objects(alloc: Global, body: &Body) -> Result<Items<u64>, NoMemory>
-    ensures { IfOk result (λ objects. objects ≡ member_objects body.now) }
+/// Adds that the set names its members, in order.
+fn add_members(names: &mut Items<Naming>, holder: u64, members: &[Member]) -> Result<(), NoMemory>
+    ensures { OnOk result (names.new ≡ names.old ++ map (held_by holder) (map (λ member. member.object) members.now)) }
 {
-    match body {
-        Body::Set(set) => member_objects(alloc, set.members.as_slice()),
-        _ => Ok(Items::new(alloc)),
+    for member in members {
+        names.push(Naming::held_by(holder, member.object))?;
     }
+    Ok(())
 }
 
 fn add_membership_names(names: &mut Items<Naming>, object: &Object) -> Result<(), NoMemory>
     ensures { OnOk result (names.new ≡ names.old ++ membership_names object.now) }
 {
-    let members = membership_objects(names.allocator(), &object.body)?;
-    add_all_held(names, object.id, members.as_slice())
+    match &object.body {
+        Body::Set(set) => add_members(names, object.id, set.members.as_slice()),
+        _ => Ok(()),
+    }
 }
 
 fn add_memberships(names: &mut Items<Naming>, objects: &[Object]) -> Result<(), NoMemory>
@@ -46,6 +50,6 @@ pub fn is_or_contains(
     let mut names = Items::new(alloc);
     names.push(Naming::root(outer))?;
     add_memberships(&mut names, objects)?;
-    let marked = mark_reached(alloc, names.as_slice())?;
+    let marked = reached(alloc, names.as_slice())?;
     Ok(is_in(marked.as_slice(), inner))
 }

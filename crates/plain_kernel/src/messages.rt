@@ -1,6 +1,6 @@
 //! `get`, `read` and `put`.
 
-ghost use Rattle.std.specs.Prelude.{◌≡◌, IfOk, ◌≤◌, length, take, drop, OnOk};
+ghost use Rattle.std.specs.Prelude.{◌≡◌, IfOk, ◌≤◌, length, take, drop};
 ghost use Rattle.kernel_types.specs.Messages.{with_opened, get_from, get, read_message, read_from, read, without_opened, unblocked_end, peer_unblocked, put_from, put};
 ghost use Rattle.kernel_types.specs.Objects.{end_changed, end_of};
 ghost use Rattle.plain_kernel.specs.Shown.{outcome};
@@ -9,7 +9,7 @@ use crate::connects::number_of_place;
 use crate::ends::{is_disconnected, is_unconnected};
 use crate::installs::install_all;
 use crate::objects::{find_end, place_of_object};
-use crate::queues::{find_filled, find_opened, least_free_id, messages_without, place_of_filled};
+use crate::queues::{find_filled, find_opened, least_free_id, place_of_filled, remove_opened};
 use crate::tables::{find_entry, has_room, table_of};
 use crate::told::{Told, gives, gives_with, refuses};
 use kernel_values::{
@@ -28,7 +28,7 @@ fn open_first(end: &mut ChannelEnd, id: u32)
 }
 
 /// The oldest filled message of the end is opened under the id.
-fn open_message(core: &mut CoreState, object: u64, id: u32)
+pub fn open_message(core: &mut CoreState, object: u64, id: u32)
     ensures { core.new ≡ end_changed (with_opened id) object core.old }
 {
     let place = place_of_object(core.objects.as_slice(), object);
@@ -173,18 +173,15 @@ pub fn read_call(
 
 /// The message that is open under the id goes.
 #[tactic(auto, unfolding(crate::specs::Tests::is_another))]
-fn retire(core: &mut CoreState, object: u64, id: u32) -> Result<(), NoMemory>
-    ensures { OnOk result (core.new ≡ end_changed (without_opened id) object core.old) }
+pub fn retire(core: &mut CoreState, object: u64, id: u32)
+    ensures { core.new ≡ end_changed (without_opened id) object core.old }
 {
-    let alloc = core.objects.allocator();
     let place = place_of_object(core.objects.as_slice(), object);
     if let Some(held) = core.objects.get_mut(place) {
         if let Body::End(end) = &mut held.body {
-            let others = messages_without(alloc, end.messages.as_slice(), id)?;
-            end.messages = others;
+            remove_opened(&mut end.messages, id);
         }
     }
-    Ok(())
 }
 
 fn unblock_end(core: &mut CoreState, id: u64)
@@ -199,7 +196,7 @@ fn unblock_end(core: &mut CoreState, id: u64)
     }
 }
 
-fn unblock_peer(core: &mut CoreState, peer: Option<u64>)
+pub fn unblock_peer(core: &mut CoreState, peer: Option<u64>)
     ensures { core.new ≡ peer_unblocked peer core.old }
 {
     if let Some(id) = peer {
@@ -207,18 +204,18 @@ fn unblock_peer(core: &mut CoreState, peer: Option<u64>)
     }
 }
 
-fn put_from(core: &mut CoreState, object: u64, id: u32) -> Result<Told, NoMemory>
-    ensures { IfOk result (λ told. outcome told core.new ≡ put_from core.old object id (end_of core.old.objects object)) }
+fn put_from(core: &mut CoreState, object: u64, id: u32) -> Told
+    ensures { outcome result core.new ≡ put_from core.old object id (end_of core.old.objects object) }
 {
     let Some(end) = find_end(core.objects.as_slice(), object) else {
-        return Ok(refuses(Errno::InvalidArgs));
+        return refuses(Errno::InvalidArgs);
     };
     let Some(message) = find_opened(end.messages.as_slice(), id) else {
-        return Ok(refuses(Errno::InvalidArgs));
+        return refuses(Errno::InvalidArgs);
     };
     let seq = message.seq;
     let peer = end.peer;
-    retire(core, object, id)?;
+    retire(core, object, id);
     unblock_peer(core, peer);
     let seqs = Seqs {
         sent: None,
@@ -228,16 +225,16 @@ fn put_from(core: &mut CoreState, object: u64, id: u32) -> Result<Told, NoMemory
             seq,
         }),
     };
-    Ok(gives_with(Reply::Done, seqs))
+    gives_with(Reply::Done, seqs)
 }
 
 /// The message is retired; a peer that is blocked becomes unblocked.
 #[tactic(auto, unfolding(kernel_types::specs::Messages::put))]
-pub fn put_call(core: &mut CoreState, app: u32, chan: u32, id: u32) -> Result<Told, NoMemory>
-    ensures { IfOk result (λ told. outcome told core.new ≡ put core.old app chan id) }
+pub fn put_call(core: &mut CoreState, app: u32, chan: u32, id: u32) -> Told
+    ensures { outcome result core.new ≡ put core.old app chan id }
 {
     let Some(entry) = find_entry(table_of(core, app), chan) else {
-        return Ok(refuses(Errno::BadHandle));
+        return refuses(Errno::BadHandle);
     };
     put_from(core, entry.object, id)
 }

@@ -1,14 +1,12 @@
 //! The entries that name objects.
 
-ghost use Rattle.std.specs.Prelude.{◌≡◌, OnOk, ◌++◌, map, IfOk, ◌≤◌, length};
-ghost use Rattle.kernel_types.specs.Names.{root, held_by, table_names, wait_names, message_objects, named_in, object_names, naming, names_of};
+ghost use Rattle.std.specs.Prelude.{◌≡◌, ◌++◌, ◌+◌, ◌≤◌, map, length, vec_capacity};
+ghost use Rattle.kernel_types.specs.Names.{root, held_by, table_names, wait_names, message_objects, object_names, naming, names_of};
 ghost use Rattle.std.specs.List.{flat_map};
 
 use kernel_values::{
-    Activity, Application, Body, Copied, CoreState, Items, Member, Message, NoMemory, Object,
-    Thread, WaitOn,
+    Activity, Application, Body, CoreState, Member, Message, NoMemory, Object, Thread, WaitOn,
 };
-use std::alloc::Global;
 use std::marker::Model;
 
 /// One entry that names an object, held by an object or by none.
@@ -38,7 +36,7 @@ impl Naming {
         }
     }
 
-    fn held_by(holder: u64, object: u64) -> Naming
+    pub fn held_by(holder: u64, object: u64) -> Naming
         ensures { result ≡ held_by holder object }
     {
         Naming {
@@ -48,26 +46,32 @@ impl Naming {
     }
 }
 
-fn add_table_names(names: &mut Items<Naming>, app: &Application) -> Result<(), NoMemory>
-    ensures { OnOk result (names.new ≡ names.old ++ table_names app.now) }
+// Each of these writes into the room of the list, so that none takes memory.
+
+fn add_table_names(names: &mut Vec<Naming>, app: &Application)
+    requires { length names.old.items + length (table_names app.now) ≤ vec_capacity names.old }
+    ensures items { names.new.items ≡ names.old.items ++ table_names app.now }
+    ensures room { vec_capacity names.new ≡ vec_capacity names.old }
 {
     for entry in app.table.as_slice() {
-        names.push(Naming::root(entry.object))?;
+        names.push_reserved(Naming::root(entry.object));
     }
-    Ok(())
 }
 
-fn add_bridge_names(names: &mut Items<Naming>, bridged: &[u64]) -> Result<(), NoMemory>
-    ensures { OnOk result (names.new ≡ names.old ++ map root bridged.now) }
+fn add_bridge_names(names: &mut Vec<Naming>, bridged: &[u64])
+    requires { length names.old.items + length bridged.now ≤ vec_capacity names.old }
+    ensures items { names.new.items ≡ names.old.items ++ map root bridged.now }
+    ensures room { vec_capacity names.new ≡ vec_capacity names.old }
 {
     for end in bridged {
-        names.push(Naming::root(*end))?;
+        names.push_reserved(Naming::root(*end));
     }
-    Ok(())
 }
 
-fn add_wait_names(names: &mut Items<Naming>, thread: &Thread) -> Result<(), NoMemory>
-    ensures { OnOk result (names.new ≡ names.old ++ wait_names thread.now) }
+fn add_wait_names(names: &mut Vec<Naming>, thread: &Thread)
+    requires { length names.old.items + length (wait_names thread.now) ≤ vec_capacity names.old }
+    ensures items { names.new.items ≡ names.old.items ++ wait_names thread.now }
+    ensures room { vec_capacity names.new ≡ vec_capacity names.old }
 {
     match thread.activity {
         Activity::Waiting { start: _, wait } => match wait.on {
@@ -75,111 +79,100 @@ fn add_wait_names(names: &mut Items<Naming>, thread: &Thread) -> Result<(), NoMe
                 object,
                 handle: _,
                 cookie: _,
-            } => names.push(Naming::root(object)),
-            WaitOn::Connect { end, handle: _ } => names.push(Naming::root(end)),
-            WaitOn::Any => Ok(()),
+            } => names.push_reserved(Naming::root(object)),
+            WaitOn::Connect { end, handle: _ } => names.push_reserved(Naming::root(end)),
+            WaitOn::Any => {}
         },
-        _ => Ok(()),
+        _ => {}
     }
 }
 
 /// Adds that the holder names these objects, in order.
-pub fn add_all_held(names: &mut Items<Naming>, holder: u64, objects: &[u64]) -> Result<(), NoMemory>
-    ensures { OnOk result (names.new ≡ names.old ++ map (held_by holder) objects.now) }
+fn add_all_held(names: &mut Vec<Naming>, holder: u64, objects: &[u64])
+    requires { length names.old.items + length objects.now ≤ vec_capacity names.old }
+    ensures items { names.new.items ≡ names.old.items ++ map (held_by holder) objects.now }
+    ensures room { vec_capacity names.new ≡ vec_capacity names.old }
 {
     for object in objects {
-        names.push(Naming::held_by(holder, *object))?;
+        names.push_reserved(Naming::held_by(holder, *object));
     }
-    Ok(())
 }
 
-fn message_objects(alloc: Global, messages: &[Message]) -> Result<Items<u64>, NoMemory>
-    ensures { IfOk result (λ objects. objects ≡ message_objects messages.now) }
+fn add_message_names(names: &mut Vec<Naming>, holder: u64, messages: &[Message])
+    requires { length names.old.items + length (message_objects messages.now) ≤ vec_capacity names.old }
+    ensures items { names.new.items ≡ names.old.items ++ map (held_by holder) (message_objects messages.now) }
+    ensures room { vec_capacity names.new ≡ vec_capacity names.old }
 {
-    let mut objects = Items::new(alloc);
     for message in messages {
-        add_all(&mut objects, message.parts.as_slice())?;
+        add_all_held(names, holder, message.parts.as_slice());
     }
-    Ok(objects)
 }
 
-fn add_all(numbers: &mut Items<u64>, more: &[u64]) -> Result<(), NoMemory>
-    ensures { OnOk result (numbers.new ≡ numbers.old ++ more.now) }
+fn add_member_names(names: &mut Vec<Naming>, holder: u64, members: &[Member])
+    requires { length names.old.items + length members.now ≤ vec_capacity names.old }
+    ensures items { names.new.items ≡ names.old.items ++ map (held_by holder) (map (λ member. member.object) members.now) }
+    ensures room { vec_capacity names.new ≡ vec_capacity names.old }
 {
-    for number in more {
-        numbers.push(*number)?;
-    }
-    Ok(())
-}
-
-/// The members of a set.
-pub fn member_objects(alloc: Global, members: &[Member]) -> Result<Items<u64>, NoMemory>
-    ensures { IfOk result (λ objects. objects ≡ map (λ member. member.object) members.now) }
-{
-    let mut objects = Items::new(alloc);
     for member in members {
-        objects.push(member.object)?;
-    }
-    Ok(objects)
-}
-
-/// What an object names.
-fn named_in(alloc: Global, body: &Body) -> Result<Items<u64>, NoMemory>
-    ensures { IfOk result (λ objects. objects ≡ named_in body.now) }
-{
-    match body {
-        Body::Port(port) => port.pending.copied(),
-        Body::End(end) => message_objects(alloc, end.messages.as_slice()),
-        Body::Set(set) => member_objects(alloc, set.members.as_slice()),
-        Body::Memory(_) => Ok(Items::new(alloc)),
+        names.push_reserved(Naming::held_by(holder, member.object));
     }
 }
 
-fn add_object_names(names: &mut Items<Naming>, object: &Object) -> Result<(), NoMemory>
-    ensures { OnOk result (names.new ≡ names.old ++ object_names object.now) }
+fn add_object_names(names: &mut Vec<Naming>, object: &Object)
+    requires { length names.old.items + length (object_names object.now) ≤ vec_capacity names.old }
+    ensures items { names.new.items ≡ names.old.items ++ object_names object.now }
+    ensures room { vec_capacity names.new ≡ vec_capacity names.old }
 {
-    let objects = named_in(names.allocator(), &object.body)?;
-    add_all_held(names, object.id, objects.as_slice())
+    match &object.body {
+        Body::Port(port) => add_all_held(names, object.id, port.pending.as_slice()),
+        Body::End(end) => add_message_names(names, object.id, end.messages.as_slice()),
+        Body::Set(set) => add_member_names(names, object.id, set.members.as_slice()),
+        Body::Memory(_) => {}
+    }
 }
 
-fn add_names_of_tables(names: &mut Items<Naming>, apps: &[Application]) -> Result<(), NoMemory>
-    ensures { OnOk result (names.new ≡ names.old ++ flat_map table_names apps.now) }
+fn add_names_of_tables(names: &mut Vec<Naming>, apps: &[Application])
+    requires { length names.old.items + length (flat_map table_names apps.now) ≤ vec_capacity names.old }
+    ensures items { names.new.items ≡ names.old.items ++ flat_map table_names apps.now }
+    ensures room { vec_capacity names.new ≡ vec_capacity names.old }
 {
     for app in apps {
-        add_table_names(names, app)?;
+        add_table_names(names, app);
     }
-    Ok(())
 }
 
-fn add_names_of_waits(names: &mut Items<Naming>, threads: &[Thread]) -> Result<(), NoMemory>
-    ensures { OnOk result (names.new ≡ names.old ++ flat_map wait_names threads.now) }
+fn add_names_of_waits(names: &mut Vec<Naming>, threads: &[Thread])
+    requires { length names.old.items + length (flat_map wait_names threads.now) ≤ vec_capacity names.old }
+    ensures items { names.new.items ≡ names.old.items ++ flat_map wait_names threads.now }
+    ensures room { vec_capacity names.new ≡ vec_capacity names.old }
 {
     for thread in threads {
-        add_wait_names(names, thread)?;
+        add_wait_names(names, thread);
     }
-    Ok(())
 }
 
-fn add_names_of_objects(names: &mut Items<Naming>, objects: &[Object]) -> Result<(), NoMemory>
-    ensures { OnOk result (names.new ≡ names.old ++ flat_map object_names objects.now) }
+fn add_names_of_objects(names: &mut Vec<Naming>, objects: &[Object])
+    requires { length names.old.items + length (flat_map object_names objects.now) ≤ vec_capacity names.old }
+    ensures items { names.new.items ≡ names.old.items ++ flat_map object_names objects.now }
+    ensures room { vec_capacity names.new ≡ vec_capacity names.old }
 {
     for object in objects {
-        add_object_names(names, object)?;
+        add_object_names(names, object);
     }
-    Ok(())
 }
 
-/// Every entry of a state that names an object.
+/// Lists anew every entry of a state that names an object.
 #[tactic(auto, unfolding(kernel_types::specs::Names::naming))]
-pub fn names_in(core: &CoreState) -> Result<Items<Naming>, NoMemory>
-    ensures { IfOk result (λ names. names ≡ naming core.now) }
+pub fn list_names(names: &mut Vec<Naming>, core: &CoreState)
+    requires { length (naming core.now) ≤ vec_capacity names.old }
+    ensures items { names.new.items ≡ naming core.now }
+    ensures room { vec_capacity names.new ≡ vec_capacity names.old }
 {
-    let mut names = Items::new(core.apps.allocator());
-    add_names_of_tables(&mut names, core.apps.as_slice())?;
-    add_bridge_names(&mut names, core.bridged.as_slice())?;
-    add_names_of_waits(&mut names, core.threads.as_slice())?;
-    add_names_of_objects(&mut names, core.objects.as_slice())?;
-    Ok(names)
+    names.clear();
+    add_names_of_tables(names, core.apps.as_slice());
+    add_bridge_names(names, core.bridged.as_slice());
+    add_names_of_waits(names, core.threads.as_slice());
+    add_names_of_objects(names, core.objects.as_slice());
 }
 
 /// How many of the entries name the object.

@@ -1,15 +1,14 @@
 //! The messages of one end: the oldest that is filled, those that are open, and their ids.
 
 ghost use Rattle.std.specs.Option.{option_copied};
-ghost use Rattle.std.specs.Prelude.{◌≡◌, ◌≤◌, IfOk};
+ghost use Rattle.std.specs.Prelude.{◌≡◌, ◌≤◌, IfOk, length};
 ghost use Rattle.std.specs.List.{find, position_or_len, filter};
 ghost use Rattle.kernel_types.specs.Events.{is_filled};
 ghost use Rattle.kernel_types.specs.Messages.{is_opened_as, is_free_id, free_id};
 ghost use Rattle.plain_kernel.specs.Counting.{free_id_below};
 ghost use Rattle.plain_kernel.specs.Tests.{is_another};
 
-use kernel_values::{Copied, Items, Message, NoMemory};
-use std::alloc::Global;
+use kernel_values::{Items, Message, NoMemory};
 
 /// The oldest message that is filled.
 pub fn find_filled(messages: &[Message]) -> Option<&Message>
@@ -82,14 +81,22 @@ fn free_id_below(messages: &[Message], limit: u32) -> u32
 
 /// The least number from 1 that no open message has.
 #[tactic(auto, unfolding(kernel_types::specs::Messages::free_id, crate::specs::Counting::free_id_below))]
+pub fn free_id(messages: &[Message]) -> u32
+    requires { length messages.now ≤ 0x7FFF_FFFF }
+    ensures { result ≡ free_id messages.now }
+{
+    let limit = messages.len() as u32 + 2;
+    free_id_below(messages, limit)
+}
+
+/// The same, refused where there are too many messages.
 pub fn least_free_id(messages: &[Message]) -> Result<u32, NoMemory>
     ensures { IfOk result (λ id. id ≡ free_id messages.now) }
 {
     if messages.len() > 0x7FFF_FFFF {
         return Err(NoMemory);
     }
-    let limit = messages.len() as u32 + 2;
-    Ok(free_id_below(messages, limit))
+    Ok(free_id(messages))
 }
 
 /// Whether the message is not the one that is open under this id.
@@ -100,19 +107,9 @@ fn is_another(message: &Message, id: u32) -> bool
     !is_opened_as(message, id)
 }
 
-/// The messages without the one that is open under this id.
-pub fn messages_without(
-    alloc: Global,
-    messages: &[Message],
-    id: u32,
-) -> Result<Items<Message>, NoMemory>
-    ensures { IfOk result (λ others. others ≡ filter (is_another id) messages.now) }
+/// The message that is open under this id goes.
+pub fn remove_opened(messages: &mut Items<Message>, id: u32)
+    ensures { messages.new ≡ filter (is_another id) messages.old }
 {
-    let mut others = Items::new(alloc);
-    for message in messages {
-        if is_another(message, id) {
-            others.push(message.copied()?)?;
-        }
-    }
-    Ok(others)
+    messages.retain(|message| is_another(message, id));
 }

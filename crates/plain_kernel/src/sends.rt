@@ -128,7 +128,7 @@ fn add_message_to(end: &mut ChannelEnd, bytes: &Bytes, parts: &Items<u64>) -> Re
     Ok(())
 }
 
-fn add_message(
+pub fn add_message(
     core: &mut CoreState,
     id: u64,
     bytes: &Bytes,

@@ -1,9 +1,10 @@
 //! One step: which events are lawful, and what each answers and leaves.
 
-ghost use Rattle.std.specs.Prelude.{◌≡◌, IfOk, map, OnOk};
+ghost use Rattle.std.specs.Prelude.{◌≡◌, IfOk, map};
 ghost use Rattle.kernel_types.specs.Built.{is_built};
 ghost use Rattle.plain_kernel.specs.Shown.{outcome_if, outcome};
 ghost use Rattle.kernel_types.specs.CoreStep.{act, core_begin, core_resume, deadline_in, sooner, least_deadline_of, least_deadline, cancelled_activity, core_idle, idle_answer};
+ghost use Rattle.kernel_types.specs.Objects.{map_at};
 ghost use Rattle.kernel_types.specs.Threads.{activity_changed};
 ghost use Rattle.plain_kernel.specs.Steps.{idle_outcome};
 ghost use Rattle.plain_kernel.specs.Alone.{core_step, core_idle_lawful};
@@ -23,20 +24,12 @@ use crate::told::Told;
 use crate::wait_calls::{wait_any_call, wait_call};
 use crate::waits::end_wait;
 use kernel_values::{Activity, Answer, Call, CoreState, Event, Items, NoMemory, Seqs, Thread};
-use std::alloc::Global;
 
-/// Whether the call has a body: those of the normal world have none yet.
+/// Whether the call has a body: those of a hostile client have none yet.
 fn is_built_call(call: &Call) -> bool
     ensures { result ≡ is_built call.now }
 {
     match call {
-        Call::NsConnect { path: _ } => false,
-        Call::NsSend { conn: _, bytes: _ } => false,
-        Call::NsRecv {
-            conn: _,
-            timeout: _,
-        } => false,
-        Call::NsClose { conn: _ } => false,
         Call::NsPoke { addr: _, bytes: _ } => false,
         Call::NsKick { queue: _, head: _ } => false,
         _ => true,
@@ -71,7 +64,7 @@ fn act_on(
             room,
             parts,
         } => read_call(core, app, *chan, *id, *offset, *room, *parts)?,
-        Call::Put { chan, id } => put_call(core, app, *chan, *id)?,
+        Call::Put { chan, id } => put_call(core, app, *chan, *id),
         Call::SetCookie { handle, cookie } => set_cookie_call(core, app, *handle, *cookie)?,
         Call::Close { handle } => close_call(core, app, *handle)?,
         Call::Dup { handle } => dup_call(core, app, *handle)?,
@@ -192,51 +185,42 @@ fn least_deadline_of(threads: &[Thread]) -> Option<u64>
 
 /// The least deadline of all waits.
 #[tactic(auto, unfolding(kernel_types::specs::CoreStep::least_deadline))]
-fn least_deadline(core: &CoreState) -> Option<u64>
+pub fn least_deadline(core: &CoreState) -> Option<u64>
     ensures { result ≡ least_deadline core.now }
 {
     least_deadline_of(core.threads.as_slice())
 }
 
-fn cancelled(thread: &Thread) -> Thread
-    ensures { result ≡ activity_changed cancelled_activity thread.now }
+/// The wait of the thread at this place is cancelled, where it waits.
+fn cancel_at(threads: &mut Items<Thread>, at: usize)
+    ensures { threads.new ≡ map_at (activity_changed cancelled_activity) threads.old at }
 {
-    let activity = match thread.activity {
-        Activity::Waiting { start, mut wait } => {
+    if let Some(thread) = threads.get_mut(at) {
+        if let Activity::Waiting { start, mut wait } = thread.activity {
             wait.cancelled = true;
-            Activity::Waiting { start, wait }
+            thread.activity = Activity::Waiting { start, wait };
         }
-        other => other,
-    };
-    Thread {
-        app: thread.app,
-        activity,
     }
 }
 
-fn all_cancelled(alloc: Global, threads: &[Thread]) -> Result<Items<Thread>, NoMemory>
-    ensures { IfOk result (λ others. others ≡ map (activity_changed cancelled_activity) threads.now) }
+#[tactic(auto, using(crate::proofs::Changing::mapped_next, crate::proofs::Changing::mapped_whole))]
+fn cancel_all(threads: &mut Items<Thread>)
+    ensures { threads.new ≡ map (activity_changed cancelled_activity) threads.old }
 {
-    let mut others = Items::new(alloc);
-    for thread in threads {
-        others.push(cancelled(thread))?;
+    for at in 0..threads.len() {
+        cancel_at(threads, at);
     }
-    Ok(others)
 }
 
 /// The clock moves to the deadline; without one, every wait is cancelled.
 #[tactic(auto, unfolding(kernel_types::specs::CoreStep::core_idle))]
-fn idle_by(core: &mut CoreState, deadline: Option<u64>) -> Result<(), NoMemory>
-    ensures { OnOk result (core.new ≡ core_idle deadline core.old) }
+pub fn idle_by(core: &mut CoreState, deadline: Option<u64>)
+    ensures { core.new ≡ core_idle deadline core.old }
 {
     match deadline {
         Some(deadline) => core.clock = deadline,
-        None => {
-            let threads = all_cancelled(core.threads.allocator(), core.threads.as_slice())?;
-            core.threads = threads;
-        }
+        None => cancel_all(&mut core.threads),
     }
-    Ok(())
 }
 
 fn idle_answer(deadline: Option<u64>) -> Answer
@@ -253,7 +237,7 @@ fn idle(core: &mut CoreState) -> Result<Told, NoMemory>
     ensures { IfOk result (λ told. outcome told core.new ≡ idle_outcome core.old) }
 {
     let deadline = least_deadline(core);
-    idle_by(core, deadline)?;
+    idle_by(core, deadline);
     sweep_state(core)?;
     Ok(Told {
         answer: idle_answer(deadline),

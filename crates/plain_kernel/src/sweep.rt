@@ -1,17 +1,18 @@
 //! What becomes of the objects that nothing reaches.
 
-ghost use Rattle.std.specs.Prelude.{◌≡◌, IfOk, map, OnOk};
-ghost use Rattle.kernel_types.specs.Sweep.{is_live, is_marked, pruned_port, pruned, cut_end, kept, reached, keep_reached, sweep};
-ghost use Rattle.plain_kernel.specs.Tests.{is_served};
+ghost use Rattle.std.specs.Prelude.{◌≡◌, ◌≤◌, [], map, length, OnOk};
+ghost use Rattle.kernel_types.specs.Names.{naming};
+ghost use Rattle.kernel_types.specs.Sweep.{is_live, is_marked, pruned_port, pruned, cut_end, kept, sweep};
+ghost use Rattle.plain_kernel.specs.Tests.{is_served, is_kept};
 ghost use Rattle.std.specs.List.{filter};
-ghost use Rattle.kernel_types.specs.Objects.{on_body, on_port, on_end};
-ghost use Rattle.kernel_types.specs.Reach.{is_in};
+ghost use Rattle.kernel_types.specs.Objects.{map_at, on_body, on_port, on_end};
+ghost use Rattle.plain_kernel.specs.Pending.{pending_at, with_pending};
 
-use crate::names::names_in;
 use crate::objects::find_end;
-use crate::reach::{is_in, mark_reached};
-use kernel_values::{Body, Copied, CoreState, EndState, Items, NoMemory, Object};
-use std::alloc::Global;
+use crate::reach::is_in;
+use crate::survey::Survey;
+use kernel_values::{Body, CoreState, EndState, Items, NoMemory, Object};
+use std::mem;
 
 fn is_live(state: EndState) -> bool
     ensures { result ≡ is_live state }
@@ -42,120 +43,124 @@ fn is_served(marked: &[u64], objects: &[Object], server: u64) -> bool
     }
 }
 
-/// The pending server ends whose client ends are marked.
-fn served(
-    alloc: Global,
-    marked: &[u64],
-    objects: &[Object],
-    pending: &[u64],
-) -> Result<Items<u64>, NoMemory>
-    ensures { IfOk result (λ servers. servers ≡ filter (is_served marked.now objects.now) pending.now) }
+/// The pending server ends stay whose client ends are marked.
+fn keep_served(marked: &[u64], objects: &[Object], pending: &mut Items<u64>)
+    ensures { pending.new ≡ filter (is_served marked.now objects.now) pending.old }
 {
-    let mut servers = Items::new(alloc);
-    for server in pending {
-        if is_served(marked, objects, *server) {
-            servers.push(*server)?;
+    pending.retain(|server| is_served(marked, objects, *server));
+}
+
+/// What is pending at the port of this place is taken out; nothing where there is no port.
+fn take_pending(objects: &mut Items<Object>, at: usize) -> Items<u64>
+    ensures pending { result ≡ pending_at objects.old at }
+    ensures objects { objects.new ≡ with_pending [] objects.old at }
+{
+    let mut pending = Items::new(objects.allocator());
+    if let Some(object) = objects.get_mut(at) {
+        if let Body::Port(port) = &mut object.body {
+            mem::swap(&mut port.pending, &mut pending);
         }
     }
-    Ok(servers)
+    pending
 }
 
-#[tactic(auto, unfolding(crate::specs::Tests::is_served))]
-fn pruned_object(
-    alloc: Global,
-    marked: &[u64],
-    objects: &[Object],
-    object: &Object,
-) -> Result<Object, NoMemory>
-    ensures { IfOk result (λ other. other ≡ on_body (on_port (pruned_port marked.now objects.now)) object.now) }
+fn put_pending(objects: &mut Items<Object>, at: usize, pending: Items<u64>)
+    ensures { objects.new ≡ with_pending pending objects.old at }
 {
-    let mut copy = object.copied()?;
-    if let Body::Port(port) = &mut copy.body {
-        port.pending = served(alloc, marked, objects, port.pending.as_slice())?;
+    if let Some(object) = objects.get_mut(at) {
+        if let Body::Port(port) = &mut object.body {
+            port.pending = pending;
+        }
     }
-    Ok(copy)
 }
 
-fn pruned_objects(
-    alloc: Global,
-    marked: &[u64],
-    objects: &[Object],
-) -> Result<Items<Object>, NoMemory>
-    ensures { IfOk result (λ others. others ≡ map (on_body (on_port (pruned_port marked.now objects.now))) objects.now) }
+/// At the port of this place, the pending server ends stay whose client ends are marked.
+fn prune_at(marked: &[u64], objects: &mut Items<Object>, at: usize)
+    ensures { objects.new ≡ map_at (on_body (on_port (pruned_port marked.now objects.old))) objects.old at }
 {
-    let mut others = Items::new(alloc);
-    for object in objects {
-        others.push(pruned_object(alloc, marked, objects, object)?)?;
+    let mut pending = take_pending(objects, at);
+    keep_served(marked, objects.as_slice(), &mut pending);
+    put_pending(objects, at, pending);
+}
+
+#[tactic(auto, using(crate::proofs::Changing::mapped_whole))]
+fn prune_all(marked: &[u64], objects: &mut Items<Object>)
+    ensures { objects.new ≡ map (on_body (on_port (pruned_port marked.now objects.old))) objects.old }
+{
+    for at in 0..objects.len() {
+        prune_at(marked, objects, at);
     }
-    Ok(others)
 }
 
 #[tactic(auto, unfolding(kernel_types::specs::Sweep::pruned))]
-fn prune(core: &mut CoreState, marked: &[u64]) -> Result<(), NoMemory>
-    ensures { OnOk result (core.new ≡ pruned marked.now core.old) }
+fn prune(core: &mut CoreState, marked: &[u64])
+    ensures { core.new ≡ pruned marked.now core.old }
 {
-    let others = pruned_objects(core.objects.allocator(), marked, core.objects.as_slice())?;
-    core.objects = others;
-    Ok(())
+    prune_all(marked, &mut core.objects);
 }
 
-fn cut_object(marked: &[u64], object: &Object) -> Result<Object, NoMemory>
-    ensures { IfOk result (λ other. other ≡ on_body (on_end (cut_end marked.now)) object.now) }
+/// The end at this place, where it is live and its peer is not marked, becomes Disconnected.
+fn cut_at(marked: &[u64], objects: &mut Items<Object>, at: usize)
+    ensures { objects.new ≡ map_at (on_body (on_end (cut_end marked.now))) objects.old at }
 {
-    let mut copy = object.copied()?;
-    if let Body::End(end) = &mut copy.body {
-        if is_live(end.state) && !is_marked(marked, end.peer) {
-            end.state = EndState::Disconnected;
+    if let Some(object) = objects.get_mut(at) {
+        if let Body::End(end) = &mut object.body {
+            if is_live(end.state) && !is_marked(marked, end.peer) {
+                end.state = EndState::Disconnected;
+            }
         }
     }
-    Ok(copy)
 }
 
-fn kept_objects(
-    alloc: Global,
-    marked: &[u64],
-    objects: &[Object],
-) -> Result<Items<Object>, NoMemory>
-    ensures { IfOk result (λ others. others ≡ map (on_body (on_end (cut_end marked.now))) (filter (λ object. is_in marked.now object.id) objects.now)) }
+#[tactic(auto, using(crate::proofs::Changing::mapped_next, crate::proofs::Changing::mapped_whole))]
+fn cut_all(marked: &[u64], objects: &mut Items<Object>)
+    ensures { objects.new ≡ map (on_body (on_end (cut_end marked.now))) objects.old }
 {
-    let mut others = Items::new(alloc);
-    for object in objects {
-        if is_in(marked, object.id) {
-            others.push(cut_object(marked, object)?)?;
-        }
+    for at in 0..objects.len() {
+        cut_at(marked, objects, at);
     }
-    Ok(others)
 }
 
-#[tactic(auto, unfolding(kernel_types::specs::Sweep::kept))]
-fn keep(core: &mut CoreState, marked: &[u64]) -> Result<(), NoMemory>
-    ensures { OnOk result (core.new ≡ kept marked.now core.old) }
+/// The marked objects stay.
+#[tactic(auto, unfolding(crate::specs::Tests::is_kept))]
+fn keep_marked(marked: &[u64], objects: &mut Items<Object>)
+    ensures { objects.new ≡ filter (is_kept marked.now) objects.old }
 {
-    let others = kept_objects(core.objects.allocator(), marked, core.objects.as_slice())?;
-    core.objects = others;
-    Ok(())
+    objects.retain(|object| is_in(marked, object.id));
 }
 
-fn marks_of(core: &CoreState) -> Result<Items<u64>, NoMemory>
-    ensures { IfOk result (λ marked. marked ≡ reached core.now) }
+#[tactic(auto, unfolding(kernel_types::specs::Sweep::kept, crate::specs::Tests::is_kept))]
+fn keep(core: &mut CoreState, marked: &[u64])
+    ensures { core.new ≡ kept marked.now core.old }
 {
-    let names = names_in(core)?;
-    mark_reached(names.allocator(), names.as_slice())
+    keep_marked(marked, &mut core.objects);
+    cut_all(marked, &mut core.objects);
 }
 
-fn keep_reached(core: &mut CoreState) -> Result<(), NoMemory>
-    ensures { OnOk result (core.new ≡ keep_reached core.old) }
+/// Ends what nothing reaches, as every step does at its end. The state has no more entries than the
+/// survey has room for; it lists those that are left.
+#[tactic(auto, unfolding(kernel_types::specs::Sweep::sweep), using(crate::proofs::Fewer::fewer_pruned, crate::proofs::Fewer::fewer_kept))]
+pub fn sweep_within(core: &mut CoreState, survey: &mut Survey)
+    requires { length (naming core.old) ≤ survey.old.room }
+    ensures core { core.new ≡ sweep core.old }
+    ensures names { survey.new.names ≡ naming core.new }
+    ensures fits { length (naming core.new) ≤ survey.new.room }
+    ensures room { survey.new.room ≡ survey.old.room }
 {
-    let marked = marks_of(core)?;
-    keep(core, marked.as_slice())
+    survey.list(core);
+    survey.mark();
+    prune(core, survey.marked());
+    survey.list(core);
+    survey.mark();
+    keep(core, survey.marked());
+    survey.list(core);
 }
 
-/// Ends what nothing reaches, as every step does at its end.
-#[tactic(auto, unfolding(kernel_types::specs::Sweep::sweep))]
+/// The same with a survey of its own.
 pub fn sweep_state(core: &mut CoreState) -> Result<(), NoMemory>
     ensures { OnOk result (core.new ≡ sweep core.old) }
 {
-    let marked = marks_of(core)?;
-    prune(core, marked.as_slice())?;
-    keep_reached(core)
+    let mut survey = Survey::of(core)?;
+    sweep_within(core, &mut survey);
+    Ok(())
 }
