@@ -102,7 +102,7 @@ impl Driver {
         wait_of(self.waits.as_slice(), client)
     }
 
-    /// Whether the client's wait would have an answer after a drain.
+    /// Whether the client's wait would have an answer after a drain. Nothing is written and no memory is taken.
     pub fn movable(&self, mem: &[u8], client: u32) -> bool
         requires memory { length mem.now ≡ MEMORY_SIZE }
         ensures { result ≡ has_answer (wait_of self.now.waits client) (bare mem.now self.now.driver) }

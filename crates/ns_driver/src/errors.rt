@@ -5,7 +5,8 @@ ghost use Rattle.kernel_types.specs.Errors.{error_of};
 
 use kernel_values::Errno;
 
-/// The error with a number; a number of none is an invalid argument.
+/// The error with a number from 1 on; a number past the last is an invalid argument. No refusal has the number 0, which
+/// is taken for 1.
 #[tactic(auto, unfolding(kernel_types::specs::Errors::error_of))]
 pub fn error_of(number: u32) -> Errno
     ensures { result ≡ error_of number }

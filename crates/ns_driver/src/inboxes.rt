@@ -63,7 +63,8 @@ fn shut(connections: &mut Items<Connection>, address: u32)
     }
 }
 
-/// What a receive on the connection at a place answers: the oldest message, or that the connection is over; else nothing.
+/// What a receive on the connection with this address answers: the oldest message, or without one that the connection
+/// is over; else nothing.
 fn receive(driver: &mut DriverState, conn: u32) -> Result<Option<Planned>, NoMemory>
     ensures some { IfOk result (λ found. option_map (λ p. outcome p.answer p.frame driver.new) found ≡ option_map outcome_of (receive_answer (connection_of driver.old.connections conn) (alone driver.old))) }
     ensures none { IfOk result (λ found. IfNone found (driver.new ≡ driver.old)) }
