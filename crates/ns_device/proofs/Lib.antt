@@ -1,0 +1,14 @@
+pub mod Anywhere
+pub mod Bridging
+pub mod First
+pub mod Fronts
+pub mod Leaving
+pub mod Names
+pub mod Numbers
+pub mod Passing
+pub mod Peeking
+pub mod Inserted
+pub mod Dues
+pub mod Sounds
+pub mod Takings
+pub mod Works

@@ -1,0 +1,9 @@
+-- The first number of a range that passes a test: the search goes on from the next number where one does not pass.
+use Rattle.std.proofs.Common.{◌≡◌, ℕ, suc, ◌+◌, ◌-◌, ◌<◌, Bool, false, ◌∷◌, refl, arith}
+use Rattle.std.specs.List.{find, range_with_len}
+
+range_step : (a n : ℕ) → a < n → range_with_len a (n - a) ≡ a ∷ range_with_len (a + 1) (n - (a + 1))
+range_step a n h = let e : n - a ≡ suc (n - (a + 1)) = omega arith in rw e refl
+
+pub number_passed : (p : ℕ → Bool) (a n : ℕ) → a < n → p a ≡ false → find p (range_with_len a (n - a)) ≡ find p (range_with_len (a + 1) (n - (a + 1)))
+number_passed p a n h t = rw (range_step a n h, t) refl

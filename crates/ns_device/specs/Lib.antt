@@ -1,0 +1,10 @@
+pub mod Beside
+pub mod Entries
+pub mod Named
+pub mod Owing
+pub mod Sends
+pub mod Standing
+pub mod Steps
+pub mod Taken
+pub mod Taking
+pub mod Worlds
