@@ -51,6 +51,10 @@ fn faults(rt: HostRuntime) -> Result<(), Fail> {
         (r#"{"uuid":null}"#, ManifestFault::Uuid),
         (r#"{"uuid":"1111","mgmt_flags":1}"#, ManifestFault::Uuid),
         (
+            r#"{"uuid":"URN:UUID:700bd400-bfee-3dc0-d885-d5f9c40ff7e7"}"#,
+            ManifestFault::Uuid,
+        ),
+        (
             r#"{"uuid":"11111111222233334444555555555555","mgmt_flags":null,"start_ports":1}"#,
             ManifestFault::MgmtFlags,
         ),
@@ -107,6 +111,8 @@ fn texts(rt: HostRuntime) -> Result<(), Fail> {
     };
     assert_eq!(rt; manifest.uuid, 0x11111111_2222_3333_4444_555555555555);
     assert!(rt; manifest.ports.is_empty());
+    let urn = br#"{"uuid":"urn:uuid:11111111-2222-3333-4444-555555555555"}"#;
+    assert!(rt; spelled(rt.alloc(), urn)?.is_some());
     assert!(rt; spelled(rt.alloc(), b"{}")?.is_none());
     assert!(rt; spelled(rt.alloc(), b"{} x")?.is_none());
     assert!(rt; spelled(rt.alloc(), b"")?.is_none());
