@@ -2,4 +2,3 @@ pub mod Parts
 pub mod Results
 pub mod Quiet
 pub mod Turns
-pub mod Alone

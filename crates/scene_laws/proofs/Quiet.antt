@@ -1,5 +1,5 @@
--- Lines before the turns: after each of them, where it is no fault, there is no turn yet.
-use Rattle.std.proofs.Common.{◌≡◌, ℕ, ◌*◌, ◌&&◌, false, not, cond, List, [], ◌∷◌, ◌++◌, length, Result, Ok, Err, refl}
+-- Lines before the turns: after each of them, where it is no fault, there is no turn yet, or what there was.
+use Rattle.std.proofs.Common.{◌≡◌, ℕ, ◌*◌, ◌≤◌, ◌&&◌, false, not, cond, List, [], ◌∷◌, ◌++◌, length, Option, Some, Result, Ok, Err, refl, arith}
 use Rattle.std.specs.Prelude.{IfOk, nat_lt}
 use Rattle.kernel_values.specs.Commands.{has_lawful_registers, payload_of}
 use Rattle.kernel_values.specs.Words.{is_name}
@@ -8,6 +8,7 @@ use Rattle.kernel_values.specs.declared.script.Command.{Command}
 use Rattle.scene_reader.specs.declared.fault.SceneKind.{SceneKind}
 use Rattle.scene_reader.specs.declared.fault.SceneKind.TheVariants.{OutOfPlace, BadWords, NameTaken, TooMany}
 use Rattle.scene_reader.specs.declared.reading.OpenApp.{OpenApp}
+use Rattle.scene_reader.specs.declared.reading.OpenClient.{OpenClient}
 use Rattle.scene_reader.specs.declared.reading.Repeat.{Repeat}
 use Rattle.scene_reader.specs.declared.reading.Place.{Place}
 use Rattle.scene_reader.specs.declared.reading.Place.TheVariants as place
@@ -15,12 +16,18 @@ use Rattle.scene_reader.specs.declared.reading.Registered.{Registered}
 use Rattle.scene_reader.specs.declared.reading.Used.{Used}
 use Rattle.scene_reader.specs.declared.reading.Reading.{Reading}
 use Rattle.scene_reader.specs.declared.words.CallWord.{CallWord}
+use Rattle.scene_reader.specs.declared.words.ClientWord.{ClientWord}
 use Rattle.scene_reader.specs.declared.words.LineWord.{LineWord}
 use Rattle.scene_reader.specs.declared.words.LineWord.TheVariants as line
+use Rattle.scene_reader.specs.declared.words.PartWord.{PartWord}
+use Rattle.scene_reader.specs.declared.words.PartWord.TheVariants as part
+use Rattle.scene_reader.specs.declared.words.ScriptWord.{ScriptWord}
+use Rattle.scene_reader.specs.declared.words.ScriptWord.TheVariants as script
 use Rattle.scene_reader.specs.Gives.{◌>>=◌}
 use Rattle.scene_reader.specs.Texts.{after_two_words}
 use Rattle.scene_reader.specs.Calls.{command_line}
-use Rattle.scene_reader.specs.Reading.{is_within, with_used, with_command, app_line, extended, repeat_line, call_act, no_more, next_thread, thread_act, times_in, repeat_act, repeated, closed, end_act, apps_with, manifest_act, is_taken, with_ports, most_apps, new_app, with_app, described_app, named_app, app_act, turns_act, word_act}
+use Rattle.scene_reader.specs.ClientCalls.{client_command_line}
+use Rattle.scene_reader.specs.Reading.{after_command, with_command, app_line, extended, repeat_line, call_act, with_client_command, client_line, client_repeat_line, client_call_act, no_more, next_thread, thread_act, times_in, begun, repeat_act, repeated, after_repeat, closed, client_closed, end_act, is_in_repeat, apps_with, clients_with, manifest_act, is_named, with_ports, most_apps, new_app, with_app, described_app, named_app, app_act, most_clients, new_client, with_client, client_name, named_client, client_act, may_be_sized, queue_in, queues_act, turns_act, part_act, script_act, word_act}
 use Rattle.scene_reader.specs.Whole.{turns_in}
 use Rattle.scene_laws.proofs.Results.{after, after_that, either}
 
@@ -37,9 +44,7 @@ RegisteredQuiet next = IsQuiet next.1
 
 command_quiet : (used : Used) (app : OpenApp) (command : Command) → IfOk (with_command used app command) UsedQuiet
 unfolding with_command
-command_quiet used app command =
-    let more = with_used used 1 (payload_of command.call) in
-    either UsedQuiet (has_lawful_registers command && is_within more) (Ok (more, place.App (record app { script = app.script ++ command ∷ [] }))) (Err TooMany) refl tt
+command_quiet used app command = after UsedQuiet (after_command used command) (λ more. Ok (more, place.App (record app { script = app.script ++ command ∷ [] }))) (λ more. refl)
 
 app_line_quiet : (used : Used) (app : OpenApp) (word : CallWord) (words : List (List ℕ)) → IfOk (app_line used app word words) UsedQuiet
 unfolding app_line
@@ -61,9 +66,42 @@ call_quiet : (used : Used) (last : Place) (word : CallWord) (words : List (List 
 unfolding call_act
 call_quiet used (place.App app) word words = app_line_quiet used app word words
 call_quiet used (place.Repeat app repeat) word words = after_that IsQuiet UsedQuiet (repeat_line app repeat word words) (λ next. Ok (used, next)) (repeat_line_quiet app repeat word words) (λ next quiet. quiet)
+call_quiet used (place.Client client) word words = tt
+call_quiet used (place.ClientRepeat client repeat) word words = tt
 call_quiet used place.Start word words = tt
 call_quiet used place.Outside word words = tt
 call_quiet used (place.Turns turns) word words = tt
+
+-- ---- clients' commands
+
+client_command_quiet : (used : Used) (client : OpenClient) (command : Command) → IfOk (with_client_command used client command) UsedQuiet
+unfolding with_client_command
+client_command_quiet used client command = after UsedQuiet (after_command used command) (λ more. Ok (more, place.Client (record client { script = client.script ++ command ∷ [] }))) (λ more. refl)
+
+client_line_quiet : (used : Used) (client : OpenClient) (word : ClientWord) (words : List (List ℕ)) → IfOk (client_line used client word words) UsedQuiet
+unfolding client_line
+client_line_quiet used client word words =
+    let next = λ (read : List (List ℕ) × Command). with_client_command used (record client { names = read.0 }) read.1 in
+    after UsedQuiet (client_command_line client.names word words) next (λ read. client_command_quiet used (record client { names = read.0 }) read.1)
+
+client_repeat_line_quiet : (client : OpenClient) (repeat : Repeat) (word : ClientWord) (words : List (List ℕ)) → IfOk (client_repeat_line client repeat word words) IsQuiet
+unfolding client_repeat_line
+client_repeat_line_quiet client repeat word words =
+    let past : List (List ℕ) × Command → Result Place SceneKind = λ read. Ok (place.ClientRepeat client repeat) in
+    let more : List (List ℕ) × Command → Result Place SceneKind = λ read. Ok (place.ClientRepeat (record client { names = read.0 }) (extended repeat read.1)) in
+    either IsQuiet repeat.is_past (client_command_line [] word words >>= past) (client_command_line client.names word words >>= more)
+    (after IsQuiet (client_command_line [] word words) past (λ read. refl))
+    (after IsQuiet (client_command_line client.names word words) more (λ read. refl))
+
+client_call_quiet : (used : Used) (last : Place) (word : ClientWord) (words : List (List ℕ)) → IfOk (client_call_act used last word words) UsedQuiet
+unfolding client_call_act
+client_call_quiet used (place.Client client) word words = client_line_quiet used client word words
+client_call_quiet used (place.ClientRepeat client repeat) word words = after_that IsQuiet UsedQuiet (client_repeat_line client repeat word words) (λ next. Ok (used, next)) (client_repeat_line_quiet client repeat word words) (λ next quiet. quiet)
+client_call_quiet used (place.App app) word words = tt
+client_call_quiet used (place.Repeat app repeat) word words = tt
+client_call_quiet used place.Start word words = tt
+client_call_quiet used place.Outside word words = tt
+client_call_quiet used (place.Turns turns) word words = tt
 
 -- ---- threads and repeats
 
@@ -73,6 +111,8 @@ thread_quiet (place.App app) words =
     let opened : OpenApp → Result Place SceneKind = λ next. Ok (place.App next) in
     either IsQuiet (no_more words) (next_thread app >>= opened) (Err BadWords) (after IsQuiet (next_thread app) opened (λ next. refl)) tt
 thread_quiet (place.Repeat app repeat) words = tt
+thread_quiet (place.Client client) words = tt
+thread_quiet (place.ClientRepeat client repeat) words = tt
 thread_quiet place.Start words = tt
 thread_quiet place.Outside words = tt
 thread_quiet (place.Turns turns) words = tt
@@ -80,23 +120,29 @@ thread_quiet (place.Turns turns) words = tt
 repeat_quiet : (at : ℕ) (last : Place) (words : List (List ℕ)) → IfOk (repeat_act at last words) IsQuiet
 unfolding repeat_act
 repeat_quiet at (place.App app) words =
-    let opened : ℕ → Result Place SceneKind = λ times. Ok (place.Repeat app (record { line = at; times = times; body = []; payload = 0; is_past = false })) in
+    let opened : ℕ → Result Place SceneKind = λ times. Ok (place.Repeat app (begun at times)) in
     either IsQuiet app.has_thread (times_in words >>= opened) (Err OutOfPlace) (after IsQuiet (times_in words) opened (λ times. refl)) tt
+repeat_quiet at (place.Client client) words = after IsQuiet (times_in words) (λ times. Ok (place.ClientRepeat client (begun at times))) (λ times. refl)
 repeat_quiet at (place.Repeat app repeat) words = tt
+repeat_quiet at (place.ClientRepeat client repeat) words = tt
 repeat_quiet at place.Start words = tt
 repeat_quiet at place.Outside words = tt
 repeat_quiet at (place.Turns turns) words = tt
 
 closed_quiet : (used : Used) (app : OpenApp) (repeat : Repeat) → IfOk (closed used app repeat) UsedQuiet
 unfolding closed
-closed_quiet used app repeat =
-    let more = with_used used (repeat.times * length repeat.body) (repeat.times * repeat.payload) in
-    either UsedQuiet (not repeat.is_past && is_within more) (Ok (more, place.App (record app { script = app.script ++ repeated repeat.times repeat.body }))) (Err TooMany) refl tt
+closed_quiet used app repeat = after UsedQuiet (after_repeat used repeat) (λ more. Ok (more, place.App (record app { script = app.script ++ repeated repeat.times repeat.body }))) (λ more. refl)
+
+client_closed_quiet : (used : Used) (client : OpenClient) (repeat : Repeat) → IfOk (client_closed used client repeat) UsedQuiet
+unfolding client_closed
+client_closed_quiet used client repeat = after UsedQuiet (after_repeat used repeat) (λ more. Ok (more, place.Client (record client { script = client.script ++ repeated repeat.times repeat.body }))) (λ more. refl)
 
 end_quiet : (used : Used) (last : Place) (words : List (List ℕ)) → IfOk (end_act used last words) UsedQuiet
 unfolding end_act
 end_quiet used (place.Repeat app repeat) words = either UsedQuiet (no_more words) (closed used app repeat) (Err BadWords) (closed_quiet used app repeat) tt
+end_quiet used (place.ClientRepeat client repeat) words = either UsedQuiet (no_more words) (client_closed used client repeat) (Err BadWords) (client_closed_quiet used client repeat) tt
 end_quiet used (place.App app) words = tt
+end_quiet used (place.Client client) words = tt
 end_quiet used place.Start words = tt
 end_quiet used place.Outside words = tt
 end_quiet used (place.Turns turns) words = tt
@@ -106,14 +152,14 @@ end_quiet used (place.Turns turns) words = tt
 added_quiet : (before : Registered) (last : Place) (name : List ℕ) (manifest : Manifest) → IfOk (with_app before last name manifest) RegisteredQuiet
 unfolding with_app
 added_quiet before last name manifest =
-    let made : List (List ℕ) → Result (Registered × Place) SceneKind = λ ports. Ok (record { apps = apps_with before.apps last; names = before.names ++ name ∷ []; ports = ports }, new_app name manifest) in
-    let next : List (List ℕ) → Result (Registered × Place) SceneKind = λ ports. cond (nat_lt (length before.names) most_apps) (made ports) (Err TooMany) in
-    either RegisteredQuiet (is_taken before.names name) (Err NameTaken) (with_ports before.ports manifest.ports >>= next) tt
-    (after RegisteredQuiet (with_ports before.ports manifest.ports) next (λ ports. either RegisteredQuiet (nat_lt (length before.names) most_apps) (made ports) (Err TooMany) refl tt))
+    let made : List (List ℕ) → Result (Registered × Place) SceneKind = λ ports. Ok (record { apps = apps_with before.apps last; clients = clients_with before.clients last; noted = record before.noted { names = before.noted.names ++ name ∷ []; ports = ports } }, new_app name manifest) in
+    let next : List (List ℕ) → Result (Registered × Place) SceneKind = λ ports. cond (nat_lt (length before.noted.names) most_apps) (made ports) (Err TooMany) in
+    either RegisteredQuiet (is_named before.noted name) (Err NameTaken) (with_ports before.noted.ports manifest.ports >>= next) tt
+    (after RegisteredQuiet (with_ports before.noted.ports manifest.ports) next (λ ports. either RegisteredQuiet (nat_lt (length before.noted.names) most_apps) (made ports) (Err TooMany) refl tt))
 
 described_quiet : (before : Registered) (last : Place) (text name : List ℕ) → IfOk (described_app before last text name) RegisteredQuiet
 unfolding described_app
-described_quiet before last text name = after RegisteredQuiet (manifest_act (length before.names) (after_two_words text)) (with_app before last name) (added_quiet before last name)
+described_quiet before last text name = after RegisteredQuiet (manifest_act (length before.noted.names) (after_two_words text)) (with_app before last name) (added_quiet before last name)
 
 named_quiet : (before : Registered) (last : Place) (text : List ℕ) (words : List (List ℕ)) → IfOk (named_app before last text words) RegisteredQuiet
 unfolding named_app
@@ -122,36 +168,60 @@ named_quiet before last text (name ∷ words) = either RegisteredQuiet (is_name 
 
 app_quiet : (before : Registered) (last : Place) (text : List ℕ) (words : List (List ℕ)) → IfOk (app_act before last text words) RegisteredQuiet
 unfolding app_act
-app_quiet before (place.Repeat app repeat) text words = tt
-app_quiet before (place.App app) text words = named_quiet before (place.App app) text words
-app_quiet before place.Start text words = named_quiet before place.Start text words
-app_quiet before place.Outside text words = named_quiet before place.Outside text words
-app_quiet before (place.Turns turns) text words = named_quiet before (place.Turns turns) text words
+app_quiet before last text words = either RegisteredQuiet (is_in_repeat last) (Err OutOfPlace) (named_app before last text words) tt (named_quiet before last text words)
+
+-- ---- clients
+
+added_client_quiet : (before : Registered) (last : Place) (name : List ℕ) → IfOk (with_client before last name) RegisteredQuiet
+unfolding with_client
+added_client_quiet before last name =
+    let made : Result (Registered × Place) SceneKind = Ok (record { apps = apps_with before.apps last; clients = clients_with before.clients last; noted = record before.noted { client_names = before.noted.client_names ++ name ∷ [] } }, new_client name) in
+    let next : Result (Registered × Place) SceneKind = cond (nat_lt (length before.noted.client_names) most_clients) made (Err TooMany) in
+    either RegisteredQuiet (is_named before.noted name) (Err NameTaken) next tt (either RegisteredQuiet (nat_lt (length before.noted.client_names) most_clients) made (Err TooMany) refl tt)
+
+named_client_quiet : (before : Registered) (last : Place) (words : List (List ℕ)) → IfOk (named_client before last words) RegisteredQuiet
+unfolding named_client
+named_client_quiet before last words = after RegisteredQuiet (client_name words) (λ name. with_client before last name) (λ name. added_client_quiet before last name)
+
+client_quiet : (before : Registered) (last : Place) (words : List (List ℕ)) → IfOk (client_act before last words) RegisteredQuiet
+unfolding client_act
+client_quiet before last words = either RegisteredQuiet (is_in_repeat last) (Err OutOfPlace) (named_client before last words) tt (named_client_quiet before last words)
 
 -- ---- turns
 
-begun : (before : Registered) (last : Place) (words : List (List ℕ)) → IfOk (cond (no_more words) (Ok (record before { apps = apps_with before.apps last }, place.Turns [])) (Err BadWords)) RegisteredQuiet
-begun before last words = either RegisteredQuiet (no_more words) (Ok (record before { apps = apps_with before.apps last }, place.Turns [])) (Err BadWords) refl tt
-
 turns_quiet : (before : Registered) (last : Place) (words : List (List ℕ)) → IfOk (turns_act before last words) RegisteredQuiet
 unfolding turns_act
-turns_quiet before (place.Repeat app repeat) words = tt
-turns_quiet before (place.App app) words = begun before (place.App app) words
-turns_quiet before place.Start words = begun before place.Start words
-turns_quiet before place.Outside words = begun before place.Outside words
-turns_quiet before (place.Turns turns) words = begun before (place.Turns turns) words
+turns_quiet before last words =
+    let made : Result (Registered × Place) SceneKind = Ok (record { apps = apps_with before.apps last; clients = clients_with before.clients last; noted = before.noted }, place.Turns []) in
+    either RegisteredQuiet (is_in_repeat last) (Err OutOfPlace) (cond (no_more words) made (Err BadWords)) tt (either RegisteredQuiet (no_more words) made (Err BadWords) refl tt)
 
 -- ---- lines
 
-abbrev pub ReadingQuiet : Reading → Type 0
-ReadingQuiet reading = IsQuiet reading.place
+abbrev pub HasAtMost : ℕ → Reading → Type 0
+HasAtMost most reading = length (turns_in reading.place) ≤ most
 
-pub word_quiet : (r : Reading) (at : ℕ) (text : List ℕ) (word : LineWord) (words : List (List ℕ)) → IfOk (word_act r at text word words) ReadingQuiet
+script_quiet : (used : Used) (last : Place) (at : ℕ) (word : ScriptWord) (words : List (List ℕ)) → IfOk (script_act used last at word words) UsedQuiet
+unfolding script_act
+script_quiet used last at script.Thread words = after_that IsQuiet UsedQuiet (thread_act last words) (λ next. Ok (used, next)) (thread_quiet last words) (λ next quiet. quiet)
+script_quiet used last at script.Repeat words = after_that IsQuiet UsedQuiet (repeat_act at last words) (λ next. Ok (used, next)) (repeat_quiet at last words) (λ next quiet. quiet)
+script_quiet used last at script.End words = end_quiet used last words
+script_quiet used last at (script.Call word) words = call_quiet used last word words
+script_quiet used last at (script.ClientCall word) words = client_call_quiet used last word words
+
+few_of_quiet : (most : ℕ) (rule : Result (Registered × Place) SceneKind) → IfOk rule RegisteredQuiet → IfOk rule (λ next. length (turns_in next.1) ≤ most)
+few_of_quiet most (Ok next) quiet = omega (arith, quiet)
+few_of_quiet most (Err kind) quiet = tt
+
+part_few : (most : ℕ) (before : Registered) (last : Place) (text : List ℕ) (word : PartWord) (words : List (List ℕ)) → length (turns_in last) ≤ most → IfOk (part_act before last text word words) (λ next. length (turns_in next.1) ≤ most)
+unfolding part_act
+part_few most before last text part.Queues words few = after (λ (next : Registered × Place). length (turns_in next.1) ≤ most) (queues_act before last words) (λ next. Ok (next, last)) (λ next. few)
+part_few most before last text part.App words few = few_of_quiet most (app_act before last text words) (app_quiet before last text words)
+part_few most before last text part.Client words few = few_of_quiet most (client_act before last words) (client_quiet before last words)
+part_few most before last text part.Turns words few = few_of_quiet most (turns_act before last words) (turns_quiet before last words)
+
+pub word_few : (most : ℕ) (r : Reading) (at : ℕ) (text : List ℕ) (word : LineWord) (words : List (List ℕ)) → HasAtMost most r → IfOk (word_act r at text word words) (HasAtMost most)
 unfolding word_act
-word_quiet r at text line.Scene words = tt
-word_quiet r at text line.App words = after_that RegisteredQuiet ReadingQuiet (app_act r.before r.place text words) (λ next. Ok (record { place = next.1; before = next.0; used = r.used })) (app_quiet r.before r.place text words) (λ next quiet. quiet)
-word_quiet r at text line.Turns words = after_that RegisteredQuiet ReadingQuiet (turns_act r.before r.place words) (λ next. Ok (record { place = next.1; before = next.0; used = r.used })) (turns_quiet r.before r.place words) (λ next quiet. quiet)
-word_quiet r at text line.Thread words = after_that IsQuiet ReadingQuiet (thread_act r.place words) (λ next. Ok (record { place = next; before = r.before; used = r.used })) (thread_quiet r.place words) (λ next quiet. quiet)
-word_quiet r at text line.Repeat words = after_that IsQuiet ReadingQuiet (repeat_act at r.place words) (λ next. Ok (record { place = next; before = r.before; used = r.used })) (repeat_quiet at r.place words) (λ next quiet. quiet)
-word_quiet r at text line.End words = after_that UsedQuiet ReadingQuiet (end_act r.used r.place words) (λ next. Ok (record { place = next.1; before = r.before; used = next.0 })) (end_quiet r.used r.place words) (λ next quiet. quiet)
-word_quiet r at text (line.Call word) words = after_that UsedQuiet ReadingQuiet (call_act r.used r.place word words) (λ next. Ok (record { place = next.1; before = r.before; used = next.0 })) (call_quiet r.used r.place word words) (λ next quiet. quiet)
+word_few most r at text line.Scene words few = tt
+word_few most r at text (line.Part word) words few = after_that (λ (next : Registered × Place). length (turns_in next.1) ≤ most) (HasAtMost most) (part_act r.before r.place text word words) (λ next. Ok (record { place = next.1; before = next.0; used = r.used }))
+    (part_few most r.before r.place text word words few) (λ next more. more)
+word_few most r at text (line.Script word) words few = after_that UsedQuiet (HasAtMost most) (script_act r.used r.place at word words) (λ next. Ok (record { place = next.1; before = r.before; used = next.0 })) (script_quiet r.used r.place at word words) (λ next quiet. omega (arith, quiet))

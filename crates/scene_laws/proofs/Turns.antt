@@ -17,10 +17,7 @@ use Rattle.scene_reader.specs.Reading.{turn_word, with_turns, known, word_act, f
 use Rattle.scene_reader.specs.Whole.{opening, open_line, fault_in, turns_in, ended, lines_act, scene_of}
 use Rattle.scene_laws.proofs.Parts.{words_few, bytes_in, lines_short}
 use Rattle.scene_laws.proofs.Results.{after, after_that, either}
-use Rattle.scene_laws.proofs.Quiet.{word_quiet, ReadingQuiet}
-
-abbrev HasAtMost : ℕ → Reading → Type 0
-HasAtMost most reading = length (turns_in reading.place) ≤ most
+use Rattle.scene_laws.proofs.Quiet.{HasAtMost, word_few}
 
 -- ---- a line
 
@@ -30,17 +27,10 @@ listed most turns [] few = omega (arith, few)
 listed most turns (word ∷ words) few = after (λ (all : List Turn). length all ≤ most) (turn_word word) (λ turn. with_turns (turns ++ turn ∷ []) words)
     (λ turn. listed most (turns ++ turn ∷ []) words (omega (arith, length-append turns (turn ∷ []), few)))
 
-of_none : (most : ℕ) (reading : Reading) → ReadingQuiet reading → HasAtMost most reading
-of_none most reading quiet = omega (arith, quiet)
-
-weaker : (most : ℕ) (rule : Result Reading SceneKind) → IfOk rule ReadingQuiet → IfOk rule (HasAtMost most)
-weaker most (Ok reading) quiet = of_none most reading quiet
-weaker most (Err kind) quiet = tt
-
 first_few : (most : ℕ) (r : Reading) (at : ℕ) (text : List ℕ) (words : List (List ℕ)) → HasAtMost most r → IfOk (first_word r at text words) (HasAtMost most)
 unfolding first_word
 first_few most r at text [] few = few
-first_few most r at text (first ∷ words) few = after (HasAtMost most) (known (line_word first)) (λ word. word_act r at text word words) (λ word. weaker most (word_act r at text word words) (word_quiet r at text word words))
+first_few most r at text (first ∷ words) few = after (HasAtMost most) (known (line_word first)) (λ word. word_act r at text word words) (λ word. word_few most r at text word words few)
 
 act_few : (most : ℕ) (r : Reading) (last : Place) (at : ℕ) (text : List ℕ) (words : List (List ℕ)) → HasAtMost most r → length (turns_in last) + length words ≤ most → IfOk (words_act r last at text words) (HasAtMost most)
 unfolding words_act
@@ -50,6 +40,8 @@ act_few most r (place.Turns turns) at text words few room =
 act_few most r place.Outside at text words few room = first_few most r at text words few
 act_few most r (place.App app) at text words few room = first_few most r at text words few
 act_few most r (place.Repeat app repeat) at text words few room = first_few most r at text words few
+act_few most r (place.Client client) at text words few room = first_few most r at text words few
+act_few most r (place.ClientRepeat client repeat) at text words few room = first_few most r at text words few
 
 line_few : (r : Reading) (at : ℕ) (text : List ℕ) → IfOk (line_act r at text) (HasAtMost (length (turns_in r.place) + length text))
 unfolding line_act
@@ -64,12 +56,14 @@ line_few r at text =
 abbrev IsShort : ℕ → SceneValue → Type 0
 IsShort most scene = length scene.turns ≤ most
 
-ended_few : (most : ℕ) (r : Reading) (last : Place) → HasAtMost most r → IfOk (ended r last) (IsShort most)
+ended_few : (most : ℕ) (r : Reading) (last : Place) → length (turns_in last) ≤ most → IfOk (ended r last) (IsShort most)
 unfolding ended
 ended_few most r place.Start few = tt
 ended_few most r (place.Repeat app repeat) few = tt
 ended_few most r place.Outside few = few
+ended_few most r (place.ClientRepeat client repeat) few = tt
 ended_few most r (place.App app) few = few
+ended_few most r (place.Client client) few = few
 ended_few most r (place.Turns turns) few = few
 
 lines_few : (most : ℕ) (lines : List (List ℕ)) (r : Reading) (at : ℕ) → length (turns_in r.place) + bytes_in lines ≤ most → IfOk (lines_act lines r at) (IsShort most)

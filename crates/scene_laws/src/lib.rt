@@ -1,16 +1,11 @@
 //! What texts of scenes have in common: laws of their definition, on functions without a body to run.
 #![tactic(auto)]
 
-ghost use Rattle.std.specs.Prelude.{◌≡◌, ◌≤◌, ℕ, List, [], length, Ok};
+ghost use Rattle.std.specs.Prelude.{◌≡◌, ◌≤◌, ℕ, List, length, Ok};
 ghost use Rattle.kernel_values.specs.SceneLaw.{SceneValue};
 ghost use Rattle.scene_reader.specs.Whole.{scene_of};
 
 /// Each turn of a scene takes a byte of its text at least.
 pub fn turns_take_bytes()
     ensures { (bytes : List ℕ) (scene : SceneValue) → scene_of bytes ≡ Ok scene → length scene.turns ≤ length bytes }
-{}
-
-/// No scene has clients: the words of the normal world are unknown words until a kernel makes their calls.
-pub fn scenes_have_no_clients()
-    ensures { (bytes : List ℕ) (scene : SceneValue) → scene_of bytes ≡ Ok scene → scene.clients ≡ [] }
 {}

@@ -6,6 +6,7 @@ pub mod Payloads
 pub mod Registers
 pub mod LineWords
 pub mod Calls
+pub mod ClientCalls
 pub mod Reading
 pub mod Whole
 pub mod Lawful

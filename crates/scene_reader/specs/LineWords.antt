@@ -1,17 +1,29 @@
 -- The words that begin a line.
-use Rattle.std.specs.Prelude.{ℕ, List, bytes_eq, codes, Option, Some, None, option_map, if◌then◌else◌}
+use Rattle.std.specs.Prelude.{ℕ, List, bytes_eq, codes, Option, Some, None, if◌then◌else◌}
 use Rattle.scene_reader.specs.declared.words.LineWord.{LineWord}
 use Rattle.scene_reader.specs.declared.words.LineWord.TheVariants as line
 use Rattle.scene_reader.specs.declared.words.CallWord.{CallWord}
 use Rattle.scene_reader.specs.declared.words.CallWord.TheVariants as call
+use Rattle.scene_reader.specs.declared.words.ClientWord.{ClientWord}
+use Rattle.scene_reader.specs.declared.words.ClientWord.TheVariants as client
+use Rattle.scene_reader.specs.declared.words.PartWord.{PartWord}
+use Rattle.scene_reader.specs.declared.words.PartWord.TheVariants as part
+use Rattle.scene_reader.specs.declared.words.ScriptWord.{ScriptWord}
+use Rattle.scene_reader.specs.declared.words.ScriptWord.TheVariants as script
 
-unfoldable pub structure_word : List ℕ → Option LineWord
-structure_word word = if bytes_eq word (codes "scene") then Some line.Scene
-    else if bytes_eq word (codes "app") then Some line.App
-    else if bytes_eq word (codes "thread") then Some line.Thread
-    else if bytes_eq word (codes "repeat") then Some line.Repeat
-    else if bytes_eq word (codes "end") then Some line.End
-    else if bytes_eq word (codes "turns") then Some line.Turns
+-- what a scene is made of
+unfoldable pub part_word : List ℕ → Option PartWord
+part_word word = if bytes_eq word (codes "queues") then Some part.Queues
+    else if bytes_eq word (codes "app") then Some part.App
+    else if bytes_eq word (codes "client") then Some part.Client
+    else if bytes_eq word (codes "turns") then Some part.Turns
+    else None
+
+-- what scripts are made of
+unfoldable pub structure_word : List ℕ → Option ScriptWord
+structure_word word = if bytes_eq word (codes "thread") then Some script.Thread
+    else if bytes_eq word (codes "repeat") then Some script.Repeat
+    else if bytes_eq word (codes "end") then Some script.End
     else None
 
 -- ports and waits
@@ -58,10 +70,27 @@ or_else None other = other
 unfoldable pub thread_word : List ℕ → Option CallWord
 thread_word word = or_else (port_word word) (or_else (message_word word) (or_else (handle_word word) (memory_word word)))
 
-abbrev pub or_call : Option LineWord → Option CallWord → Option LineWord
-or_call (Some word) thread = Some word
-or_call None (Some word) = Some (line.Call word)
-or_call None None = None
+-- the lines of a client's script
+unfoldable pub client_word : List ℕ → Option ClientWord
+client_word word = if bytes_eq word (codes "nconnect") then Some client.Connect
+    else if bytes_eq word (codes "nsend") then Some client.Send
+    else if bytes_eq word (codes "nrecv") then Some client.Recv
+    else if bytes_eq word (codes "nclose") then Some client.Close
+    else None
+
+abbrev pub or_calls : Option ScriptWord → Option CallWord → Option ClientWord → Option ScriptWord
+or_calls (Some word) thread client = Some word
+or_calls None (Some word) client = Some (script.Call word)
+or_calls None None (Some word) = Some (script.ClientCall word)
+or_calls None None None = None
+
+unfoldable pub script_word : List ℕ → Option ScriptWord
+script_word word = or_calls (structure_word word) (thread_word word) (client_word word)
+
+abbrev pub or_script : Option PartWord → Option ScriptWord → Option LineWord
+or_script (Some word) other = Some (line.Part word)
+or_script None (Some word) = Some (line.Script word)
+or_script None None = None
 
 unfoldable pub line_word : List ℕ → Option LineWord
-line_word word = or_call (structure_word word) (thread_word word)
+line_word word = if bytes_eq word (codes "scene") then Some line.Scene else or_script (part_word word) (script_word word)

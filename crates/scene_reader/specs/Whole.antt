@@ -11,16 +11,22 @@ use Rattle.scene_reader.specs.declared.fault.SceneRefused.{SceneRefused}
 use Rattle.scene_reader.specs.declared.fault.SceneRefused.TheVariants as refused
 use Rattle.scene_reader.specs.declared.reading.Place.{Place}
 use Rattle.scene_reader.specs.declared.reading.Place.TheVariants as place
+use Rattle.scene_reader.specs.declared.reading.Registered.{Registered}
 use Rattle.scene_reader.specs.declared.reading.Reading.{Reading}
 use Rattle.scene_reader.specs.Texts.{lines_of, words_of, is_text_byte}
-use Rattle.scene_reader.specs.Reading.{line_act, apps_with}
+use Rattle.scene_reader.specs.Reading.{line_act, apps_with, clients_with, queue_of}
 
 abbrev pub opening : Reading
-opening = record { place = place.Start; before = record { apps = []; names = []; ports = [] }; used = record { commands = 0; payload = 0 } }
+opening = record {
+  place = place.Start;
+  before = record { apps = []; clients = []; noted = record { names = []; client_names = []; ports = []; queue = None } };
+  used = record { commands = 0; payload = 0 };
+}
 
 -- the line of the repeat that is open
 abbrev pub open_line : Place → Option ℕ
 open_line (place.Repeat app repeat) = Some repeat.line
+open_line (place.ClientRepeat client repeat) = Some repeat.line
 open_line other = None
 
 abbrev pub is_end : List (List ℕ) → Bool
@@ -48,11 +54,16 @@ abbrev pub turns_in : Place → List Turn
 turns_in (place.Turns turns) = turns
 turns_in other = []
 
+-- all that was read, where this is the last place
+abbrev pub scene_in : Registered → Place → SceneValue
+scene_in before last = record { apps = apps_with before.apps last; clients = clients_with before.clients last; queue = queue_of before.noted; turns = turns_in last }
+
 -- after the last line
 unfoldable pub ended : Reading → Place → Result SceneValue SceneFault
 ended r place.Start = Err (record { kind = NoHeader; line = 0 })
 ended r (place.Repeat app repeat) = Err (record { kind = OpenRepeat; line = repeat.line })
-ended r other = Ok (record { apps = apps_with r.before.apps r.place; clients = []; queue = 16; turns = turns_in r.place })
+ended r (place.ClientRepeat client repeat) = Err (record { kind = OpenRepeat; line = repeat.line })
+ended r last = Ok (scene_in r.before last)
 
 -- the lines from this number on
 unfoldable pub lines_act : List (List ℕ) → Reading → ℕ → Result SceneValue SceneFault

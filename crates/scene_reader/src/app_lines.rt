@@ -8,18 +8,16 @@ ghost use Rattle.scene_reader.specs.Gives.{Gives};
 ghost use Rattle.scene_reader.specs.Lawful.{IsLawful};
 ghost use Rattle.scene_reader.specs.Texts.{is_text_byte};
 ghost use Rattle.scene_reader.specs.declared.reading.Used.{Used};
-ghost use Rattle.scene_reader.specs.Reading.{app_of, last_app, apps_with, is_taken, manifest_act, plain_manifest, with_ports, with_app, described_app, named_app, app_act};
+ghost use Rattle.scene_reader.specs.Reading.{is_taken, is_named, manifest_act, with_ports, new_app, with_app, described_app, named_app, app_act};
 
 use crate::fault::LineRefused::{self, Fault};
 use crate::fault::SceneKind::{BadManifest, BadWords, NameTaken, OutOfPlace, TooMany};
+use crate::last_place::{is_in_repeat, settled};
 use crate::numbers::is_name;
-use crate::reading::{OpenApp, Place, Registered};
+use crate::reading::{Noted, OpenApp, Place, Registered};
 use crate::texts::after_two_words;
 use app_manifest::{manifests_are_lawful, read_manifest};
-use kernel_values::{
-    App, AppList, Bytes, Copied, Items, Manifest, NoMemory, Script, ScriptList, StartPort,
-    StartPortList,
-};
+use kernel_values::{Bytes, Copied, Items, Manifest, Script, ScriptList, StartPort, StartPortList};
 use std::alloc::Global;
 
 // Without a manifest an application has its number and 1 as UUID, and no more.
@@ -71,44 +69,23 @@ fn with_ports(paths: &mut Items<Bytes>, ports: &[StartPort]) -> Result<(), LineR
     }
 }
 
-// The last application has no later line.
-pub fn apps_with(apps: AppList, place: Place) -> Result<AppList, NoMemory>
-    ensures { IfOk result (λ after. after ≡ apps_with apps place) }
+// Applications and clients share their names.
+pub fn is_named(noted: &Noted, name: &[u8]) -> bool
+    ensures { result ≡ is_named noted.now name.now }
 {
-    let mut apps = apps;
-    if let Some(app) = last_app(place) {
-        apps.push(app_of(app)?)?;
-    }
-    Ok(apps)
+    is_taken(&noted.names, name) || is_taken(&noted.client_names, name)
 }
 
-fn last_app(place: Place) -> Option<OpenApp>
-    ensures { result ≡ last_app place }
+fn new_app(alloc: Global, name: Bytes, manifest: Manifest) -> Place
+    ensures { result ≡ new_app name manifest }
 {
-    match place {
-        Place::App(app) => Some(app),
-        Place::Repeat(app, _repeat) => Some(app),
-        Place::Turns(_turns) => None,
-        Place::Start | Place::Outside => None,
-    }
-}
-
-fn app_of(app: OpenApp) -> Result<App, NoMemory>
-    ensures { IfOk result (λ made. made ≡ app_of app) }
-{
-    let OpenApp {
+    Place::App(OpenApp {
         name,
         manifest,
-        threads,
-        script,
-        ..
-    } = app;
-    let mut threads = threads;
-    threads.push(script)?;
-    Ok(App {
-        name,
-        manifest,
-        threads,
+        threads: ScriptList::new(alloc),
+        script: Script::new(alloc),
+        names: Items::new(alloc),
+        has_thread: false,
     })
 }
 
@@ -123,27 +100,28 @@ fn with_app(
 ) -> Result<(Registered, Place), LineRefused>
     ensures { Gives (λ next. next) result (with_app before last name.now manifest) }
 {
-    let Registered { apps, names, ports } = before;
-    let mut names = names;
-    let mut ports = ports;
-    if is_taken(&names, name) {
+    let Registered {
+        apps,
+        clients,
+        noted,
+    } = before;
+    let mut noted = noted;
+    if is_named(&noted, name) {
         return Err(Fault(NameTaken));
     }
-    with_ports(&mut ports, manifest.ports.as_slice())?;
-    if names.len() >= 32 {
+    with_ports(&mut noted.ports, manifest.ports.as_slice())?;
+    if noted.names.len() >= 32 {
         return Err(Fault(TooMany));
     }
-    let apps = apps_with(apps, last)?;
-    names.push(Bytes::from_slice(alloc, name)?)?;
-    let app = OpenApp {
-        name: Bytes::from_slice(alloc, name)?,
-        manifest,
-        threads: ScriptList::new(alloc),
-        script: Script::new(alloc),
-        names: Items::new(alloc),
-        has_thread: false,
+    let (apps, clients) = settled(apps, clients, last)?;
+    noted.names.push(Bytes::from_slice(alloc, name)?)?;
+    let app = new_app(alloc, Bytes::from_slice(alloc, name)?, manifest);
+    let after = Registered {
+        apps,
+        clients,
+        noted,
     };
-    Ok((Registered { apps, names, ports }, Place::App(app)))
+    Ok((after, app))
 }
 
 // The application with this name, and the rest of the line as its manifest.
@@ -160,7 +138,7 @@ fn described_app(
     ensures exact { Gives (λ next. next) result (described_app before last line.now name.now) }
     ensures kept { (used : Used) → IsLawful before last used → IfOk result (λ next. IsLawful next.0 next.1 used) }
 {
-    let manifest = manifest_act(alloc, before.names.len(), after_two_words(line))?;
+    let manifest = manifest_act(alloc, before.noted.names.len(), after_two_words(line))?;
     match with_app(alloc, before, last, name, manifest) {
         Ok(next) => Ok(next),
         Err(refused) => Err(refused),
@@ -201,7 +179,7 @@ pub fn app_act(
     ensures exact { Gives (λ next. next) result (app_act before last line.now (map (λ word. word.now) words.now)) }
     ensures kept { (used : Used) → IsLawful before last used → IfOk result (λ next. IsLawful next.0 next.1 used) }
 {
-    if let Place::Repeat(..) = &last {
+    if is_in_repeat(&last) {
         return Err(Fault(OutOfPlace));
     }
     Ok(named_app(alloc, before, last, line, words)?)

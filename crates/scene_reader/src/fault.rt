@@ -30,7 +30,7 @@ pub enum SceneKind {
     /// The rest of an `app` line is no JSON, or no manifest.
     #[error("bad manifest")]
     BadManifest,
-    /// An application's name, or the path of a start port, was there before.
+    /// The name of an application or a client, or the path of a start port, was there before.
     #[error("name taken")]
     NameTaken,
     /// The line passes a limit; lines in a repeat count at its `end`.

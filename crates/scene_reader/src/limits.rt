@@ -1,10 +1,13 @@
 //! What a scene may hold at most, and what a command takes of it.
 
-ghost use Rattle.std.specs.Prelude.{◌≡◌};
+ghost use Rattle.std.specs.Prelude.{◌≡◌, IfOk, IsTrue};
 ghost use Rattle.std.specs.List.{list_all};
 ghost use Rattle.kernel_values.specs.Commands.{has_lawful_registers, handle_count, payload_of, is_register, is_lawful_read};
-ghost use Rattle.scene_reader.specs.Reading.{is_within};
+ghost use Rattle.scene_reader.specs.Gives.{Gives};
+ghost use Rattle.scene_reader.specs.Reading.{is_within, after_command};
 
+use crate::fault::LineRefused::{self, Fault};
+use crate::fault::SceneKind::TooMany;
 use crate::reading::Used;
 use kernel_values::{Call, Command, RegRead};
 
@@ -86,4 +89,20 @@ pub fn is_within(used: &Used) -> bool
     ensures { result ≡ is_within used.now }
 {
     used.commands <= 16_384 && used.payload <= 16_777_216
+}
+
+// What is used with one command more, if that is within the limits.
+#[tactic(auto, unfolding(crate::specs::Reading::after_command))]
+pub fn after_command(used: Used, command: &Command) -> Result<Used, LineRefused>
+    ensures exact { Gives (λ more. more) result (after_command used command.now) }
+    ensures registers { IfOk result (λ _. IsTrue (has_lawful_registers command.now)) }
+{
+    let after = Used {
+        commands: used.commands.saturating_add(1),
+        payload: used.payload.saturating_add(payload_of(&command.call)),
+    };
+    if !has_lawful_registers(command) || !is_within(&after) {
+        return Err(Fault(TooMany));
+    }
+    Ok(after)
 }

@@ -1,6 +1,6 @@
 //! What was read of a scene so far.
 
-use kernel_values::{AppList, Bytes, Items, Manifest, Script, ScriptList, TurnList};
+use kernel_values::{AppList, Bytes, ClientList, Items, Manifest, Script, ScriptList, TurnList};
 
 // The last application, which may still get lines: `threads` are those before its last one, whose
 // script is `script`, with the names of its registers. It has that thread from the first; a `thread`
@@ -13,6 +13,14 @@ pub struct OpenApp {
     pub script: Script,
     pub names: Items<Bytes>,
     pub has_thread: bool,
+}
+
+// The last client, which may still get lines, with the names of its registers.
+#[derive(Drop)]
+pub struct OpenClient {
+    pub name: Bytes,
+    pub script: Script,
+    pub names: Items<Bytes>,
 }
 
 // The repeat that began at this line: the commands that come so many times, and their payload.
@@ -31,19 +39,31 @@ pub struct Repeat {
 pub enum Place {
     // Before the header.
     Start,
-    // Before the first application.
+    // Before the first application and the first client.
     Outside,
     App(OpenApp),
     Repeat(OpenApp, Repeat),
+    Client(OpenClient),
+    ClientRepeat(OpenClient, Repeat),
     Turns(TurnList),
 }
 
-// The applications before the last, and the names and the paths of start ports of them all.
+// What the whole scene has so far: the names of its applications and of its clients, the paths of
+// start ports, and the size of the queues, if a line told it.
+#[derive(Drop)]
+pub struct Noted {
+    pub names: Items<Bytes>,
+    pub client_names: Items<Bytes>,
+    pub ports: Items<Bytes>,
+    pub queue: Option<u32>,
+}
+
+// The applications and clients before the last, and what was noted of them all.
 #[derive(Drop)]
 pub struct Registered {
     pub apps: AppList,
-    pub names: Items<Bytes>,
-    pub ports: Items<Bytes>,
+    pub clients: ClientList,
+    pub noted: Noted,
 }
 
 // The commands and the bytes of payload of all scripts, repeats that are closed included.

@@ -1,24 +1,23 @@
 //! Threads, their commands, and repeats.
 
-ghost use Rattle.std.specs.Prelude.{◌≡◌, ◌++◌, IsTrue, IfOk, OnOk, map};
-ghost use Rattle.std.specs.List.{list_all};
-ghost use Rattle.kernel_values.specs.Commands.{has_lawful_registers};
+ghost use Rattle.std.specs.Prelude.{◌≡◌, IfOk, map};
 ghost use Rattle.scene_reader.specs.Gives.{Gives};
-ghost use Rattle.scene_reader.specs.Calls.{is_thread_line};
-ghost use Rattle.scene_reader.specs.Lawful.{IsCounted, IsLawful};
+ghost use Rattle.scene_reader.specs.Lawful.{IsLawful};
 ghost use Rattle.scene_reader.specs.declared.reading.Place.TheVariants as place;
 ghost use Rattle.scene_reader.specs.declared.reading.Registered.{Registered};
 ghost use Rattle.scene_reader.specs.declared.reading.Used.{Used};
-ghost use Rattle.scene_reader.specs.Reading.{with_command, app_line, extended, repeat_line, call_act, no_more, next_thread, thread_act, times_in, repeat_act, repeated, closed, end_act};
+ghost use Rattle.scene_reader.specs.Reading.{with_command, app_line, repeat_line, call_act, next_thread, thread_act, times_in, repeat_act, closed, end_act};
 
 use crate::call_lines::command_line;
+use crate::client_lines::client_closed;
 use crate::fault::LineRefused::{self, Fault};
 use crate::fault::SceneKind::{BadWords, OutOfPlace, TooMany};
-use crate::limits::{has_lawful_registers, is_within, payload_of};
+use crate::limits::after_command;
 use crate::numbers::number_within;
 use crate::reading::{OpenApp, Place, Repeat, Used};
+use crate::repeats::{after_repeat, begun, extended, push_repeated};
 use crate::words::CallWord;
-use kernel_values::{Bytes, Command, Copied, Items, NoMemory, Script};
+use kernel_values::{Command, Items, Script};
 use std::alloc::Global;
 use std::mem;
 
@@ -27,13 +26,7 @@ use std::mem;
 fn with_command(used: Used, app: OpenApp, command: Command) -> Result<(Used, Place), LineRefused>
     ensures { Gives (λ next. next) result (with_command used app command) }
 {
-    let after = Used {
-        commands: used.commands.saturating_add(1),
-        payload: used.payload.saturating_add(payload_of(&command.call)),
-    };
-    if !has_lawful_registers(&command) || !is_within(&after) {
-        return Err(Fault(TooMany));
-    }
+    let after = after_command(used, &command)?;
     let mut app = app;
     app.script.push(command)?;
     Ok((after, Place::App(app)))
@@ -73,25 +66,6 @@ fn app_line(
     };
     let next = with_command(used, app, command)?;
     Ok(next)
-}
-
-// One command more in a repeat.
-#[tactic(auto, unfolding(crate::specs::Reading::extended))]
-fn extended(repeat: Repeat, command: Command) -> Result<Repeat, NoMemory>
-    ensures { IfOk result (λ after. after ≡ extended repeat command) }
-{
-    let mut repeat = repeat;
-    let after = Used {
-        commands: (repeat.body.as_slice().len() as u64).saturating_add(1),
-        payload: repeat.payload.saturating_add(payload_of(&command.call)),
-    };
-    if !has_lawful_registers(&command) || !is_within(&after) {
-        repeat.is_past = true;
-        return Ok(repeat);
-    }
-    repeat.body.push(command)?;
-    repeat.payload = after.payload;
-    Ok(repeat)
 }
 
 // A line in a repeat. Nothing more is kept of one that passes a limit anyway.
@@ -190,45 +164,20 @@ pub fn repeat_act(
     ensures exact { Gives (λ next. next) result (repeat_act line place (map (λ word. word.now) words.now)) }
     ensures kept { (before : Registered) → (used : Used) → IsLawful before place used → IfOk result (λ next. IsLawful before next used) }
 {
-    let Place::App(app) = place else {
-        return Err(Fault(OutOfPlace));
-    };
-    if !app.has_thread {
-        return Err(Fault(OutOfPlace));
+    match place {
+        Place::App(app) => {
+            if !app.has_thread {
+                return Err(Fault(OutOfPlace));
+            }
+            let times = times_in(words)?;
+            Ok(Place::Repeat(app, begun(alloc, line, times)))
+        }
+        Place::Client(client) => {
+            let times = times_in(words)?;
+            Ok(Place::ClientRepeat(client, begun(alloc, line, times)))
+        }
+        _ => Err(Fault(OutOfPlace)),
     }
-    let times = times_in(words)?;
-    let repeat = Repeat {
-        line,
-        times,
-        body: Script::new(alloc),
-        payload: 0,
-        is_past: false,
-    };
-    Ok(Place::Repeat(app, repeat))
-}
-
-// Copies of the commands go last, once.
-fn push_all(script: &mut Script, body: &[Command]) -> Result<(), NoMemory>
-    requires { IsTrue (list_all has_lawful_registers body.now) }
-    ensures { OnOk result (script.new ≡ script.old ++ body.now) }
-{
-    let mut rest = body;
-    while let [command, after @ ..] = rest {
-        script.push(command.copied()?)?;
-        rest = after;
-    }
-    Ok(())
-}
-
-// Copies of the commands go last, so many times.
-#[tactic(auto, unfolding(crate::specs::Reading::repeated))]
-fn push_repeated(script: &mut Script, times: u32, body: &Script) -> Result<(), NoMemory>
-    ensures { OnOk result (script.new ≡ script.old ++ repeated times body.now) }
-{
-    for _ in 0..times {
-        push_all(script, body.as_slice())?;
-    }
-    Ok(())
 }
 
 // The repeat is over.
@@ -236,16 +185,7 @@ fn push_repeated(script: &mut Script, times: u32, body: &Script) -> Result<(), N
 fn closed(used: Used, app: OpenApp, repeat: Repeat) -> Result<(Used, Place), LineRefused>
     ensures { Gives (λ next. next) result (closed used app repeat) }
 {
-    let times = u64::from(repeat.times);
-    let commands = times.saturating_mul(repeat.body.as_slice().len() as u64);
-    let payload = times.saturating_mul(repeat.payload);
-    let after = Used {
-        commands: used.commands.saturating_add(commands),
-        payload: used.payload.saturating_add(payload),
-    };
-    if repeat.is_past || !is_within(&after) {
-        return Err(Fault(TooMany));
-    }
+    let after = after_repeat(used, &repeat)?;
     let mut app = app;
     push_repeated(&mut app.script, repeat.times, &repeat.body)?;
     Ok((after, Place::App(app)))
@@ -256,11 +196,19 @@ pub fn end_act(used: Used, place: Place, words: &[&[u8]]) -> Result<(Used, Place
     ensures exact { Gives (λ next. next) result (end_act used place (map (λ word. word.now) words.now)) }
     ensures kept { (before : Registered) → IsLawful before place used → IfOk result (λ next. IsLawful before next.1 next.0) }
 {
-    let Place::Repeat(app, repeat) = place else {
-        return Err(Fault(OutOfPlace));
-    };
-    if !words.is_empty() {
-        return Err(Fault(BadWords));
+    match place {
+        Place::Repeat(app, repeat) => {
+            if !words.is_empty() {
+                return Err(Fault(BadWords));
+            }
+            closed(used, app, repeat)
+        }
+        Place::ClientRepeat(client, repeat) => {
+            if !words.is_empty() {
+                return Err(Fault(BadWords));
+            }
+            client_closed(used, client, repeat)
+        }
+        _ => Err(Fault(OutOfPlace)),
     }
-    closed(used, app, repeat)
 }

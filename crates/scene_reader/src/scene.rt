@@ -1,26 +1,76 @@
 //! The scene that a text spells, or its first fault.
 
-ghost use Rattle.std.specs.Prelude.{◌≡◌, ◌≤◌, IfOk, IsTrue, Err, [], length, map};
+ghost use Rattle.std.specs.Prelude.{◌≡◌, ◌≤◌, IfOk, IsTrue, Ok, Err, None, [], length, map};
 ghost use Rattle.std.specs.List.{list_all, list_any};
 ghost use Rattle.kernel_values.specs.SceneLaw.{IsLawfulScene};
 ghost use Rattle.scene_reader.specs.Gives.{Gives};
 ghost use Rattle.scene_reader.specs.Texts.{is_text_byte, lines_of};
-ghost use Rattle.scene_reader.specs.Lawful.{IsLawfulReading};
-ghost use Rattle.scene_reader.specs.Reading.{word_act, first_word, is_header, words_act, line_act};
+ghost use Rattle.scene_reader.specs.Lawful.{IsLawful, IsLawfulReading};
+ghost use Rattle.scene_reader.specs.declared.reading.Registered.{Registered};
+ghost use Rattle.scene_reader.specs.declared.reading.Used.{Used};
+ghost use Rattle.scene_reader.specs.declared.fault.SceneRefused.TheVariants as scene;
+ghost use Rattle.scene_reader.specs.Reading.{apps_with, clients_with, queue_of, part_act, script_act, word_act, first_word, is_header, words_act, line_act};
 ghost use Rattle.scene_reader.specs.Whole.{opening, open_line, is_end, closes, fault_in, ended, lines_act, scene_of, IsRefusal, IsScene};
 
-use crate::app_lines::{app_act, apps_with};
+use crate::app_lines::app_act;
+use crate::client_lines::{client_act, client_call_act};
 use crate::fault::LineRefused::{self, Fault};
 use crate::fault::SceneKind::{BadByte, NoHeader, OpenRepeat, OutOfPlace, TooMany, UnknownWord};
 use crate::fault::{SceneFault, SceneKind, SceneRefused};
+use crate::last_place::settled;
 use crate::line_words::line_word;
-use crate::reading::{Place, Reading, Registered, Used};
+use crate::queue_lines::queues_act;
+use crate::reading::{Noted, Place, Reading, Registered, Used};
 use crate::repeat_lines::{call_act, end_act, repeat_act, thread_act};
 use crate::texts::{first_line, is_skipped, is_text, words_of};
 use crate::turn_lines::{turns_act, with_turns};
-use crate::words::LineWord;
+use crate::words::{LineWord, PartWord, ScriptWord};
 use kernel_values::{AppList, ClientList, Items, NoMemory, Scene, TurnList};
 use std::alloc::Global;
+
+// A line that a scene is made of.
+#[tactic(auto, unfolding(crate::specs::Reading::part_act))]
+fn part_act(
+    alloc: Global,
+    before: Registered,
+    last: Place,
+    text: &[u8],
+    word: PartWord,
+    words: &[&[u8]],
+) -> Result<(Registered, Place), LineRefused>
+    requires { IsTrue (list_all is_text_byte text.now) }
+    ensures exact { Gives (λ next. next) result (part_act before last text.now word (map (λ word. word.now) words.now)) }
+    ensures kept { (used : Used) → IsLawful before last used → IfOk result (λ next. IsLawful next.0 next.1 used) }
+{
+    match word {
+        PartWord::Queues => Ok((queues_act(before, &last, words)?, last)),
+        PartWord::App => app_act(alloc, before, last, text, words),
+        PartWord::Client => client_act(alloc, before, last, words),
+        PartWord::Turns => turns_act(alloc, before, last, words),
+    }
+}
+
+// A line that scripts are made of.
+#[tactic(auto, unfolding(crate::specs::Reading::script_act))]
+fn script_act(
+    alloc: Global,
+    used: Used,
+    place: Place,
+    at: u32,
+    word: ScriptWord,
+    words: &[&[u8]],
+) -> Result<(Used, Place), LineRefused>
+    ensures exact { Gives (λ next. next) result (script_act used place at word (map (λ word. word.now) words.now)) }
+    ensures kept { (before : Registered) → IsLawful before place used → IfOk result (λ next. IsLawful before next.1 next.0) }
+{
+    match word {
+        ScriptWord::Thread => Ok((used, thread_act(alloc, place, words)?)),
+        ScriptWord::Repeat => Ok((used, repeat_act(alloc, at, place, words)?)),
+        ScriptWord::End => end_act(used, place, words),
+        ScriptWord::Call(word) => call_act(alloc, used, place, word, words),
+        ScriptWord::ClientCall(word) => client_call_act(alloc, used, place, word, words),
+    }
+}
 
 // A line whose first word begins a line.
 #[tactic(auto, unfolding(crate::specs::Reading::word_act))]
@@ -43,48 +93,16 @@ fn word_act(
     } = reading;
     match word {
         LineWord::Scene => Err(Fault(OutOfPlace)),
-        LineWord::App => {
-            let (before, place) = app_act(alloc, before, place, text, words)?;
+        LineWord::Part(word) => {
+            let (before, place) = part_act(alloc, before, place, text, word, words)?;
             Ok(Reading {
                 place,
                 before,
                 used,
             })
         }
-        LineWord::Turns => {
-            let (before, place) = turns_act(alloc, before, place, words)?;
-            Ok(Reading {
-                place,
-                before,
-                used,
-            })
-        }
-        LineWord::Thread => {
-            let place = thread_act(alloc, place, words)?;
-            Ok(Reading {
-                place,
-                before,
-                used,
-            })
-        }
-        LineWord::Repeat => {
-            let place = repeat_act(alloc, at, place, words)?;
-            Ok(Reading {
-                place,
-                before,
-                used,
-            })
-        }
-        LineWord::End => {
-            let (used, place) = end_act(used, place, words)?;
-            Ok(Reading {
-                place,
-                before,
-                used,
-            })
-        }
-        LineWord::Call(word) => {
-            let (used, place) = call_act(alloc, used, place, word, words)?;
+        LineWord::Script(word) => {
+            let (used, place) = script_act(alloc, used, place, at, word, words)?;
             Ok(Reading {
                 place,
                 before,
@@ -193,6 +211,17 @@ fn line_act(alloc: Global, reading: Reading, at: u32, text: &[u8]) -> Result<Rea
     words_act(alloc, reading, at, text, &words)
 }
 
+fn nothing_noted(alloc: Global) -> Noted
+    ensures { result ≡ record { names = []; client_names = []; ports = []; queue = None } }
+{
+    Noted {
+        names: Items::new(alloc),
+        client_names: Items::new(alloc),
+        ports: Items::new(alloc),
+        queue: None,
+    }
+}
+
 fn opening(alloc: Global) -> Reading
     ensures value { result ≡ opening }
     ensures lawful { IsLawfulReading result }
@@ -201,8 +230,8 @@ fn opening(alloc: Global) -> Reading
         place: Place::Start,
         before: Registered {
             apps: AppList::new(alloc),
-            names: Items::new(alloc),
-            ports: Items::new(alloc),
+            clients: ClientList::new(alloc),
+            noted: nothing_noted(alloc),
         },
         used: Used {
             commands: 0,
@@ -216,6 +245,7 @@ fn open_line(place: &Place) -> Option<u32>
 {
     match place {
         Place::Repeat(_, repeat) => Some(repeat.line),
+        Place::ClientRepeat(_, repeat) => Some(repeat.line),
         _ => None,
     }
 }
@@ -295,17 +325,32 @@ fn refusal(
     }
 }
 
-// A scene without clients.
-fn scene_with(alloc: Global, apps: AppList, turns: TurnList) -> Scene
-    requires { IsLawfulScene (record { apps = apps; clients = []; queue = 16; turns = turns }) }
-    ensures { result ≡ record { apps = apps; clients = []; queue = 16; turns = turns } }
+// The scene, where the last application or client has no later line.
+fn whole(before: Registered, last: Place, turns: TurnList) -> Result<Scene, SceneRefused>
+    requires { IsLawfulScene (record { apps = apps_with before.apps last; clients = clients_with before.clients last; queue = queue_of before.noted; turns = turns }) }
+    ensures { IsScene result (Ok (record { apps = apps_with before.apps last; clients = clients_with before.clients last; queue = queue_of before.noted; turns = turns })) }
 {
-    Scene {
+    let Registered {
         apps,
-        clients: ClientList::new(alloc),
-        queue: 16,
+        clients,
+        noted,
+    } = before;
+    let queue = noted.queue.unwrap_or(16);
+    let Ok((apps, clients)) = settled(apps, clients, last) else {
+        return Err(SceneRefused::NoMemory);
+    };
+    Ok(Scene {
+        apps,
+        clients,
+        queue,
         turns,
-    }
+    })
+}
+
+fn fault(kind: SceneKind, line: u32) -> SceneRefused
+    ensures { result ≡ scene.Fault (record { kind = kind; line = line }) }
+{
+    SceneRefused::Fault(SceneFault { kind, line })
 }
 
 // After the last line.
@@ -315,24 +360,15 @@ fn ended(alloc: Global, reading: Reading) -> Result<Scene, SceneRefused>
     ensures { IsScene result (ended reading reading.place) }
 {
     let Reading { place, before, .. } = reading;
-    let Registered { apps, .. } = before;
+    let none = TurnList::new(alloc);
     match place {
-        Place::Start => Err(SceneRefused::Fault(SceneFault {
-            kind: NoHeader,
-            line: 0,
-        })),
-        Place::Repeat(_app, repeat) => Err(SceneRefused::Fault(SceneFault {
-            kind: OpenRepeat,
-            line: repeat.line,
-        })),
-        Place::Outside => Ok(scene_with(alloc, apps, TurnList::new(alloc))),
-        Place::Turns(turns) => Ok(scene_with(alloc, apps, turns)),
-        Place::App(app) => {
-            let Ok(apps) = apps_with(apps, Place::App(app)) else {
-                return Err(SceneRefused::NoMemory);
-            };
-            Ok(scene_with(alloc, apps, TurnList::new(alloc)))
-        }
+        Place::Start => Err(fault(NoHeader, 0)),
+        Place::Repeat(_app, repeat) => Err(fault(OpenRepeat, repeat.line)),
+        Place::ClientRepeat(_client, repeat) => Err(fault(OpenRepeat, repeat.line)),
+        Place::Outside => whole(before, Place::Outside, none),
+        Place::App(app) => whole(before, Place::App(app), none),
+        Place::Client(client) => whole(before, Place::Client(client), none),
+        Place::Turns(turns) => whole(before, Place::Outside, turns),
     }
 }
 

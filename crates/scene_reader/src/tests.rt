@@ -41,7 +41,7 @@ fn headers(rt: HostRuntime) {
 fn kinds_that_meet(rt: HostRuntime) {
     let alloc = rt.alloc();
     assert!(rt; is_fault(alloc, b"scene 1\njump \x80", BadByte, 2));
-    assert!(rt; is_fault(alloc, b"scene 1\nclient c", UnknownWord, 2));
+    assert!(rt; is_fault(alloc, b"scene 1\nclient c\nnpoke 0 hex:", UnknownWord, 3));
     assert!(rt; is_fault(alloc, b"scene 1\nthread x", OutOfPlace, 2));
     assert!(rt; is_fault(alloc, b"scene 1\napp a\nclose 0", OutOfPlace, 3));
     assert!(rt; is_fault(alloc, b"scene 1\napp A {}", BadWords, 2));
@@ -133,6 +133,100 @@ fn repeats(rt: HostRuntime) {
             7
         )
     );
+}
+
+// Where lines of applications and of clients may stand.
+#[test]
+fn places(rt: HostRuntime) {
+    let alloc = rt.alloc();
+    assert!(rt; is_fault(alloc, b"scene 1\nclient c\nthread x", OutOfPlace, 3));
+    assert!(rt;
+        is_fault(
+            alloc,
+            b"scene 1\napp a\nthread\nclient c\nset",
+            OutOfPlace,
+            5
+        )
+    );
+    assert!(rt; is_fault(alloc, b"scene 1\napp a\nthread\nnclose 0", OutOfPlace, 4));
+    assert!(rt;
+        is_fault(
+            alloc,
+            b"scene 1\nclient c\nrepeat 2\nclient d\nend",
+            OutOfPlace,
+            4
+        )
+    );
+    assert!(rt;
+        is_fault(
+            alloc,
+            b"scene 1\nclient c\nrepeat 2\nnclose 0",
+            OpenRepeat,
+            3
+        )
+    );
+    assert!(rt;
+        is_fault(
+            alloc,
+            b"scene 1\napp a\nclient c\napp b\nqueues 2",
+            OutOfPlace,
+            5
+        )
+    );
+    assert!(rt; is_fault(alloc, b"scene 1\nqueues 2\nqueues 2", OutOfPlace, 3));
+    assert!(rt; is_fault(alloc, b"scene 1\nqueues 3", BadWords, 2));
+    assert!(rt; is_fault(alloc, b"scene 1\nqueues 512", BadWords, 2));
+}
+
+// The names of clients, and how many there may be.
+#[test]
+fn client_names(rt: HostRuntime) {
+    let alloc = rt.alloc();
+    assert!(rt; is_fault(alloc, b"scene 1\nclient C", BadWords, 2));
+    assert!(rt; is_fault(alloc, b"scene 1\nclient c d", BadWords, 2));
+    assert!(rt; is_fault(alloc, b"scene 1\napp a\nclient a", NameTaken, 3));
+    assert!(rt; is_fault(alloc, b"scene 1\nclient idle\napp idle", NameTaken, 3));
+    assert!(rt;
+        is_fault(
+            alloc,
+            b"scene 1\nclient a\nclient b\nclient c\nclient d\nclient e\nclient f\nclient g\nclient h\nclient i",
+            TooMany,
+            10
+        )
+    );
+    assert!(rt;
+        is_fault(
+            alloc,
+            b"scene 1\nclient c\nrepeat 257\nnsend 0 fill:65536:7\nend",
+            TooMany,
+            5
+        )
+    );
+}
+
+// Clients come after the applications, each with a script of its own.
+#[test]
+fn a_scene_with_clients(rt: HostRuntime) -> Result<(), Fail> {
+    let text =
+        b"scene 1\napp a\nthread\nset\nqueues 256\nset\nclient c\nrepeat 2\nnconnect p as k\nend\nnsend $k text:hi\nclient device\nnrecv 7 -1\nnclose 7\napp b\nturns\nD";
+    let scene = read_scene(rt.alloc(), text)?;
+    assert_eq!(rt; scene.apps.len(), 2);
+    assert_eq!(rt; scene.queue, 256);
+    assert_eq!(rt; scene.clients.len(), 2);
+    assert_eq!(rt; scene.turns.as_slice(), [Turn::Device].as_slice());
+    let client = scene.clients.get(0).ok_or("the first client")?;
+    assert_eq!(rt; client.name.as_slice(), b"c".as_slice());
+    assert_eq!(rt; client.script.as_slice().len(), 3);
+    for command in client.script.as_slice() {
+        if let Call::NsSend { conn, bytes } = &command.call {
+            assert_eq!(rt; *conn, INVALID_IPC_HANDLE);
+            assert_eq!(rt; bytes.as_slice(), b"hi".as_slice());
+            assert_eq!(rt; command.reads.len(), 1);
+        }
+    }
+    let other = scene.clients.get(1).ok_or("the second client")?;
+    assert_eq!(rt; other.script.as_slice().len(), 2);
+    Ok(())
 }
 
 // Registers are numbered as they are first named, and a repeat stands as often as it says.

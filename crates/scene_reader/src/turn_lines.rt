@@ -6,9 +6,9 @@ ghost use Rattle.scene_reader.specs.Lawful.{IsLawful};
 ghost use Rattle.scene_reader.specs.declared.reading.Used.{Used};
 ghost use Rattle.scene_reader.specs.Reading.{turn_word, with_turns, turns_act};
 
-use crate::app_lines::apps_with;
 use crate::fault::LineRefused::{self, Fault};
 use crate::fault::SceneKind::{BadWords, OutOfPlace};
+use crate::last_place::{is_in_repeat, settled};
 use crate::numbers::number;
 use crate::reading::{Place, Registered};
 use kernel_values::{Turn, TurnList};
@@ -53,16 +53,22 @@ pub fn turns_act(
     ensures exact { Gives (λ next. next) result (turns_act before last (map (λ word. word.now) words.now)) }
     ensures kept { (used : Used) → IsLawful before last used → IfOk result (λ next. IsLawful next.0 next.1 used) }
 {
-    if let Place::Repeat(..) = &last {
+    if is_in_repeat(&last) {
         return Err(Fault(OutOfPlace));
     }
     if !words.is_empty() {
         return Err(Fault(BadWords));
     }
-    let Registered { apps, names, ports } = before;
-    let apps = apps_with(apps, last)?;
-    Ok((
-        Registered { apps, names, ports },
-        Place::Turns(TurnList::new(alloc)),
-    ))
+    let Registered {
+        apps,
+        clients,
+        noted,
+    } = before;
+    let (apps, clients) = settled(apps, clients, last)?;
+    let after = Registered {
+        apps,
+        clients,
+        noted,
+    };
+    Ok((after, Place::Turns(TurnList::new(alloc))))
 }

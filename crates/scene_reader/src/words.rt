@@ -25,13 +25,37 @@ pub enum CallWord {
     Exit,
 }
 
+// The lines of a client's script.
 #[derive(Clone, Copy)]
-pub enum LineWord {
-    Scene,
-    App,
+pub enum ClientWord {
+    Connect,
+    Send,
+    Recv,
+    Close,
+}
+
+// The lines that scripts are made of.
+#[derive(Clone, Copy)]
+pub enum ScriptWord {
     Thread,
     Repeat,
     End,
-    Turns,
     Call(CallWord),
+    ClientCall(ClientWord),
+}
+
+// The lines that a scene is made of.
+#[derive(Clone, Copy)]
+pub enum PartWord {
+    Queues,
+    App,
+    Client,
+    Turns,
+}
+
+#[derive(Clone, Copy)]
+pub enum LineWord {
+    Scene,
+    Part(PartWord),
+    Script(ScriptWord),
 }

@@ -14,5 +14,5 @@ returns-in-Ok-clause-kept c = λ used h. app_kept c.args.before c.args.last used
 
 pub returns-in-Err-clause-exact : goal.returns-in-Err-clause-exact
 returns-in-Err-clause-exact c =
-    let read : manifest_act (length c.args.before.names) (after_two_words c.args.line.now) ≡ Ok c.in_ok-manifest.manifest = search rules in
+    let read : manifest_act (length c.args.before.noted.names) (after_two_words c.args.line.now) ≡ Ok c.in_ok-manifest.manifest = search rules in
     subst (λ rule. Fails c.in-Err.refused rule) (sym (described_is c.args.before c.args.last c.args.line.now c.args.name.now c.in_ok-manifest.manifest read)) c.in-Err.ensures

@@ -1,8 +1,9 @@
+use Rattle.kernel_values.specs.SceneLaw.{is_lawful_thread_command}
 use Rattle.scene_reader.proofs.Acts.{extended_counted}
 use Rattle.scene_reader.proofs.repeat_lines.repeat_line.Goals as goal
 
 pub returns-clause-kept : goal.returns-clause-kept
 returns-clause-kept c = λ before used h. record {
   keeps = h.keeps;
-  body = rw c.in_ok-extended.ensures (extended_counted c.args.repeat c.in_ok-names.command h.body c.in_ok-names.ensures.lawful);
+  body = rw c.in_ok-extended.ensures (extended_counted is_lawful_thread_command c.args.repeat c.in_ok-names.command h.body c.in_ok-names.ensures.lawful);
 }
