@@ -6,7 +6,8 @@ use Rattle.kernel_values.specs.declared.scene.Turn.{Turn}
 use Rattle.kernel_values.specs.declared.script.Command.{Command}
 use Rattle.kernel_values.specs.declared.state.State.{State}
 use Rattle.kernel_values.specs.Origin.{Origin}
-use Rattle.kernel_values.specs.SceneLaw.{SceneValue, scripts_of}
+use Rattle.kernel_values.specs.SceneLaw.{IsLawfulScene, SceneValue, scripts_of}
+use Rattle.kernel_types.specs.Carried.{CarriedInOrder}
 use Rattle.kernel_types.specs.Facts.{is_at_end}
 use Rattle.kernel_types.specs.History.{Legal, state_after}
 use Rattle.kernel_types.specs.Opening.{opening}
@@ -14,7 +15,7 @@ use Rattle.kernel_types.specs.Step.{Stepped, step}
 use Rattle.kernel_types.specs.Turns.{Run, Outturn, ran, refused, grown, event_of, run_event, run_turn, run_from, run_by, replay_of, whole_or_refused, serial_from, serial_turns, next_turn, last_after, history_limit}
 use Rattle.kernel_types.specs.Whole.{FollowsScripts}
 use Rattle.kernel_log.specs.Logs.{Log, state_of}
-use Rattle.runners.specs.Runs.{Told, state_told, run_told, run_logged, RanSerially, IsRunBy, IsWholeRun, IsCutShort, IsReplay, TookTurn}
+use Rattle.runners.specs.Runs.{Carries, Told, origin_of, state_told, run_told, run_logged, RanSerially, IsRunBy, IsWholeRun, IsCutShort, IsReplay, TookTurn}
 use Rattle.runners.specs.declared.steps.Taken.{Taken}
 use Rattle.runners.specs.declared.steps.Taken.TheVariants as taken
 
@@ -238,3 +239,14 @@ end_is next log b state entries is =
 pub cut_short : (scene : SceneValue) (next : Told) (log : Log) → IsRunBy scene (serial_turns scene) log → log.journal.entries ≡ next.history → length next.history ≡ history_limit
     → is_at_end (state_of log) ≡ false → IsCutShort scene log
 cut_short scene next log run entries full goes_on = record { run = run; full = ap length entries ∙ full; unfinished = goes_on }
+
+-- a history that follows the scripts of a lawful scene carries its frames in order
+pub told_carries : CarriedInOrder → (scene : SceneValue) (first told : Told) (log : Log) → IsLawfulScene scene → first.origin ≡ origin_of scene → told.origin ≡ first.origin
+    → log.journal.entries ≡ told.history → Legal told.origin.state told.history → FollowsScripts told.origin.scripts told.history → Carries scene log
+told_carries law scene first told log lawful first_is told_is entries_are legal follows honest =
+    let origin : told.origin ≡ origin_of scene = told_is ∙ first_is in
+    let here : Legal (opening scene) log.journal.entries =
+    subst (λ (es : List Entry). Legal (opening scene) es) (sym entries_are) (subst (λ (o : Origin). Legal o.state told.history) origin legal) in
+    let by_scripts : FollowsScripts (scripts_of scene) log.journal.entries =
+    subst (λ (es : List Entry). FollowsScripts (scripts_of scene) es) (sym entries_are) (subst (λ (o : Origin). FollowsScripts o.scripts told.history) origin follows) in
+    law scene log.journal.entries lawful honest here by_scripts

@@ -1,5 +1,6 @@
 -- What runs come to.
-use Rattle.std.specs.Prelude.{◌≡◌, ◌<◌, ◌+◌, ℕ, false, List, length, Option, Some, None, ⊤}
+use Rattle.std.specs.Prelude.{◌≡◌, ◌<◌, ◌+◌, ℕ, false, List, length, Option, Some, None, IsTrue, ⊤}
+use Rattle.std.specs.List.{list_all}
 use Rattle.kernel_values.specs.Origin.{Origin}
 use Rattle.kernel_values.specs.SceneLaw.{SceneValue, scripts_of}
 use Rattle.kernel_values.specs.declared.entry.ActorStatus.{ActorStatus}
@@ -8,6 +9,7 @@ use Rattle.kernel_values.specs.declared.entry.Entry.{Entry}
 use Rattle.kernel_values.specs.declared.scene.Turn.{Turn}
 use Rattle.kernel_values.specs.declared.script.Command.{Command}
 use Rattle.kernel_values.specs.declared.state.State.{State}
+use Rattle.kernel_types.specs.Carried.{IsCarried, is_honest}
 use Rattle.kernel_types.specs.History.{Legal, state_after}
 use Rattle.kernel_types.specs.Facts.{is_at_end}
 use Rattle.kernel_types.specs.Opening.{opening}
@@ -56,6 +58,16 @@ pub record IsRunBy (scene : SceneValue) (turns : List Turn) (log : Log) : Type 0
   pub run_is : run_by scene turns ≡ ran (run_logged log)
   pub legal : Legal (opening scene) log.journal.entries
   pub follows : FollowsScripts (scripts_of scene) log.journal.entries
+
+-- Where clients write memory and rings through the driver alone, what came over the bridge is what was sent, byte for
+-- byte and in order, as far as it came; and the device is not broken.
+
+abbrev pub Carries : SceneValue → Log → Type 0
+Carries scene log = IsTrue (list_all is_honest scene.clients) → IsCarried (opening scene) log.journal.entries
+
+abbrev pub StoppedCarries : {K : Type 0} → SceneValue → RunRefused K → Type 0
+StoppedCarries scene (run_refused.TooLong log) = Carries scene log
+StoppedCarries scene run_refused.NoMemory = ⊤
 
 -- the whole run of the scene in the serial order
 pub record IsWholeRun (scene : SceneValue) (turns : List Turn) (log : Log) : Type 0 where

@@ -3,10 +3,12 @@
 ghost use Rattle.std.specs.Prelude.{◌≡◌, ◌≤◌, IfOk, IfErr, length};
 ghost use Rattle.kernel_types.specs.Opening.{opening};
 ghost use Rattle.kernel_types.specs.Turns.{history_limit};
-ghost use Rattle.runners.specs.Runs.{IsReplay, IsReplayRefused};
+ghost use Rattle.runners.specs.Runs.{Carries, IsReplay, IsReplayRefused};
 
+use crate::scripts::is_lawful;
 use crate::shared::Shared;
 use crate::steps::Taken;
+use carry_laws::frames_are_carried_in_order;
 use kernel_log::Logged;
 use kernel_types::IpcKernel;
 use kernel_types::values::{NoMemory, Scene};
@@ -44,7 +46,10 @@ pub fn replay<K: IpcKernel + Drop>(
     requires turns { length scene.now.turns ≤ history_limit }
     ensures whole { IfOk result (λ logged. IsReplay scene.now logged) }
     ensures refused { IfErr result (λ refused. IsReplayRefused scene.now refused) }
+    ensures carried { IfOk result (λ logged. Carries scene.now logged) }
 {
+    frames_are_carried_in_order();
+    is_lawful(scene);
     let mut shared = Shared::new(alloc, kernel, scene)?;
     let turns = scene.turns.as_slice();
     for at in 0..turns.len() {

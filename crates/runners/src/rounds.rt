@@ -72,7 +72,7 @@ fn take<K: IpcKernel + Drop>(shared: &mut Shared<K>, actor: u32, turn: Turn) -> 
         Taken::Stepped => Round::Stepped {
             answered: matches!(turn, Turn::Actor(_)) && !shared.waits(actor),
         },
-        // As in the serial order: no kernel makes the calls of clients yet.
+        // As in the serial order, by the same law.
         Taken::Unlawful => Round::NoMemory,
     }
 }

@@ -2,7 +2,7 @@
 
 ghost use Rattle.std.specs.Prelude.{◌≡◌, ◌≤◌, ◌++◌, length, IfOk, OnOk, map};
 ghost use Rattle.std.specs.List.{flat_map};
-ghost use Rattle.kernel_values.specs.SceneLaw.{scripts_of};
+ghost use Rattle.kernel_values.specs.SceneLaw.{IsLawfulScene, scripts_of};
 ghost use Rattle.runners.specs.Places.{first_place, most_actors};
 
 use crate::place::Place;
@@ -34,6 +34,13 @@ fn add_clients(scripts: &mut ScriptList, clients: &[Client]) -> Result<(), NoMem
         scripts.push(client.script.copied()?)?;
     }
     Ok(())
+}
+
+/// What a scene keeps: every limit on what it may hold.
+pub fn is_lawful(scene: &Scene)
+    ensures { IsLawfulScene scene.now }
+{
+    let _ = &scene.apps;
 }
 
 /// A copy of every script: the threads' first, then the clients'. There are at most 136.

@@ -6,10 +6,12 @@ ghost use Rattle.kernel_types.specs.Opening.{opening};
 ghost use Rattle.kernel_types.specs.Facts.{is_at_end};
 ghost use Rattle.kernel_types.specs.Step.{statuses};
 ghost use Rattle.kernel_types.specs.Turns.{takes_turn, next_turn, last_after, serial_turns};
-ghost use Rattle.runners.specs.Runs.{state_told, first_after, IsBelow, RanSerially, IsWholeRun, IsStopped};
+ghost use Rattle.runners.specs.Runs.{state_told, first_after, IsBelow, RanSerially, IsWholeRun, IsStopped, Carries, StoppedCarries};
 
+use crate::scripts::is_lawful;
 use crate::shared::Shared;
 use crate::steps::Taken;
+use carry_laws::frames_are_carried_in_order;
 use kernel_log::Logged;
 use kernel_types::IpcKernel;
 use kernel_types::values::{NoMemory, Scene, Turn};
@@ -23,7 +25,7 @@ pub const HISTORY_LIMIT: u64 = 4_194_304;
 pub enum RunRefused<K: IpcKernel + Drop> {
     /// It is not whole after 4,194,304 entries. The kernel comes back with them.
     TooLong(Logged<K>),
-    /// Memory was wanted; or a client's turn came, whose calls no kernel makes yet.
+    /// Memory was wanted.
     NoMemory,
 }
 
@@ -109,8 +111,8 @@ fn run_serially<K: IpcKernel + Drop>(shared: &mut Shared<K>) -> Result<(), NoMem
         };
         match shared.turn(turn)? {
             Taken::Stepped => last = last_after(last, turn),
-            // No kernel makes the calls of clients yet. Without clients a turn of the serial order is
-            // lawful; that is not proved, and the answer is the free one.
+            // A turn of the serial order is lawful, by a law of runs that stands above this crate; the
+            // answer is the free one.
             Taken::Unlawful => return Err(NoMemory),
         }
     }
@@ -129,7 +131,11 @@ pub fn serial<K: IpcKernel + Drop>(
     requires made { K.made kernel ≡ 0 }
     ensures whole { IfOk result (λ logged. IsWholeRun scene.now (serial_turns scene.now) logged) }
     ensures refused { IfErr result (λ refused. IsStopped scene.now refused) }
+    ensures carried { IfOk result (λ logged. Carries scene.now logged) }
+    ensures cut_carried { IfErr result (λ refused. StoppedCarries scene.now refused) }
 {
+    frames_are_carried_in_order();
+    is_lawful(scene);
     let mut shared = Shared::new(alloc, kernel, scene)?;
     run_serially(&mut shared)?;
     shared.legal();

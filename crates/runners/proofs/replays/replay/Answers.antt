@@ -5,7 +5,7 @@ use Rattle.kernel_values.specs.declared.scene.Turn.TheVariants as turn
 use Rattle.kernel_types.specs.Turns.{refused, ran, run_from}
 use Rattle.kernel_types.specs.Step.{step}
 use Rattle.runners.specs.Runs.{IsRunBy, run_told}
-use Rattle.runners.proofs.Ending.{listed_is, listed_goes, listed_refused, listed_ran, listed_grows, run_is_by, whole_run, end_is, replay_ran, replay_refused, replay_unfinished}
+use Rattle.runners.proofs.Ending.{listed_is, listed_goes, listed_refused, listed_ran, listed_grows, run_is_by, whole_run, end_is, replay_ran, replay_refused, replay_unfinished, told_carries}
 use Rattle.runners.proofs.replays.replay.Goals as goal
 
 pub returns-in-Unlawful-clause-refused : goal.returns-in-Unlawful-clause-refused
@@ -43,3 +43,8 @@ returns-clause-whole g c =
     replay_ran c.args.scene.now c.into_logged.result
     (whole_run c.args.scene.now c.into_logged.result c.args.scene.now.turns run (end_is c.loop-at.shared c.into_logged.result _ c.into_logged.ensures.state c.into_logged.ensures.entries (sym c.is_over.ensures ∙ c.if-not-is_over.false)))
     (end_is c.loop-at.shared c.into_logged.result _ c.into_logged.ensures.state c.into_logged.ensures.entries (sym c.is_over.ensures ∙ c.if-not-is_over.false))
+
+pub returns-clause-carried : goal.returns-clause-carried
+returns-clause-carried g c =
+    told_carries c.frames_are_carried_in_order.ensures c.args.scene.now c.in_ok-shared.shared c.loop-at.shared c.into_logged.result c.is_lawful.ensures c.in_ok-shared.ensures.origin
+    c.loop-at.invariant.origin c.into_logged.ensures.entries c.legal.ensures.legal c.legal.ensures.follows
