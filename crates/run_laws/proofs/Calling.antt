@@ -1,4 +1,4 @@
--- The next call of a script, and that the kernel has a body for it.
+-- The next call of a script, which is of the kind of its commands, and what its step comes to.
 use Rattle.std.proofs.Common.{◌≡◌, ℕ, zero, suc, ◌+◌, ◌<◌, ◌≤◌, Bool, true, false, List, [], ◌∷◌, length, Option, Some, None, refl, ap, sym, ◌∙◌, arith}
 use Rattle.std.proofs.lemmas.Bool.Decides.{nat_tests}
 use Rattle.std.proofs.lemmas.Option.{slice_get_within}
@@ -11,18 +11,16 @@ use Rattle.kernel_values.specs.declared.reply.Answer.{Answer}
 use Rattle.kernel_values.specs.declared.script.Command.{Command}
 use Rattle.kernel_values.specs.declared.script.RegRead.{RegRead}
 use Rattle.kernel_values.specs.declared.state.CoreState.{CoreState}
-use Rattle.kernel_types.specs.Built.{is_built}
+use Rattle.kernel_values.specs.declared.world.World.{World}
+use Rattle.kernel_types.specs.Clients.{Acted, ns_act}
 use Rattle.kernel_types.specs.Outcome.{Outcome}
 use Rattle.kernel_types.specs.Scripts.{Stand, with_number, read_register, value_in, call_of, call_at, next_call, answered, stand_after, is_exit}
 use Rattle.kernel_types.specs.CoreStep.{act}
 use Rattle.run_laws.proofs.Acting.{is_ending}
+use Rattle.run_laws.proofs.Callers.{IsKind, is_of_thread, is_of_client, of_thread, of_client, thread_body, client_body}
 use Rattle.run_laws.proofs.Places.{IsCallable, HasCall, HasCommand}
 
 -- Registers change no call's kind.
-
-built_stays : (place value : ℕ) (asked : Call) → is_built (with_number place value asked) ≡ is_built asked
-built_stays place value call.Finish = refl
-built_stays place value _ = refl
 
 exit_stays : (place value : ℕ) (asked : Call) → is_exit (with_number place value asked) ≡ is_exit asked
 exit_stays place value call.Finish = refl
@@ -34,9 +32,9 @@ fold_stays p stays registers [] asked = refl
 fold_stays p stays registers (read ∷ reads) asked =
     fold_stays p stays registers reads (read_register registers asked read) ∙ stays read.place (value_in registers read.reg) asked
 
-built_of : (registers : List ℕ) (command : Command) → is_built (call_of registers command) ≡ is_built command.call
+kind_of : (of_kind : Call → Bool) → IsKind of_kind → (registers : List ℕ) (command : Command) → of_kind (call_of registers command) ≡ of_kind command.call
 unfolding call_of
-built_of registers command = fold_stays is_built built_stays registers command.reads command.call
+kind_of of_kind k registers command = fold_stays of_kind k.stays registers command.reads command.call
 
 exit_of : (registers : List ℕ) (command : Command) → is_exit (call_of registers command) ≡ is_exit command.call
 unfolding call_of
@@ -48,9 +46,9 @@ goes_on _ goes = refl
 
 -- The next call.
 
-pub record IsNext (script : List Command) (stand : Stand) (asked : Call) : Type 0 where
+pub record IsNext (of_kind : Call → Bool) (script : List Command) (stand : Stand) (asked : Call) : Type 0 where
   pub next : next_call script stand ≡ Some asked
-  pub built : is_built asked ≡ true
+  pub kind : of_kind asked ≡ true
   pub in_command : is_ending asked ≡ false → HasCommand script stand
 
 get_past : (script : List Command) (k : ℕ) → slice_get script k ≡ None → length script ≤ k
@@ -61,29 +59,34 @@ get_past (command ∷ script) (suc k) is = omega (arith, get_past script k is)
 same_is : (a b : ℕ) → a ≡ b → (a == b) ≡ true
 same_is a b is = grind (arith, nat_tests)
 
-next_at : (script : List Command) (stand : Stand) (found : Option Command) → slice_get script stand.position ≡ found → IsCallable script → HasCall script stand
-    → (asked : Call) × IsNext script stand asked
+next_at : (of_kind : Call → Bool) → IsKind of_kind → (script : List Command) (stand : Stand) (found : Option Command) → slice_get script stand.position ≡ found
+    → IsCallable of_kind script → HasCall script stand → (asked : Call) × IsNext of_kind script stand asked
 unfolding next_call
-next_at script stand None is callable has =
+next_at of_kind k script stand None is callable has =
     let last : stand.position ≡ length script = omega (arith, get_past script stand.position is, has) in (
       call.Finish,
       record {
         next = ap (λ (o : Option Command). call_at stand (length script) o) is ∙ rw (same_is stand.position (length script) last) refl;
-        built = refl;
+        kind = k.finish;
         in_command = λ goes. absurd (cc (goes));
       },
     )
-next_at script stand (Some command) is callable has = (
+next_at of_kind k script stand (Some command) is callable has = (
   call_of stand.registers command,
   record {
     next = ap (λ (o : Option Command). call_at stand (length script) o) is;
-    built = built_of stand.registers command ∙ callable stand.position command is;
+    kind = kind_of of_kind k stand.registers command ∙ callable stand.position command is;
     in_command = λ goes. (command, is, sym (exit_of stand.registers command) ∙ goes_on (call_of stand.registers command) goes);
   },
 )
 
-pub next_of : (script : List Command) (stand : Stand) → IsCallable script → HasCall script stand → (asked : Call) × IsNext script stand asked
-next_of script stand callable has = next_at script stand (slice_get script stand.position) refl callable has
+-- of a thread, and of a client
+
+pub thread_next : (script : List Command) (stand : Stand) → IsCallable is_of_thread script → HasCall script stand → (asked : Call) × IsNext is_of_thread script stand asked
+thread_next script stand callable has = next_at is_of_thread of_thread script stand (slice_get script stand.position) refl callable has
+
+pub client_next : (script : List Command) (stand : Stand) → IsCallable is_of_client script → HasCall script stand → (asked : Call) × IsNext is_of_client script stand asked
+client_next script stand callable has = next_at is_of_client of_client script stand (slice_get script stand.position) refl callable has
 
 -- Where a command is next that is no exit, a call is next, before its answer and after it.
 
@@ -97,21 +100,14 @@ answer_goes_on script stand given has =
     let moved : (stand_after script stand given (slice_get script stand.position)).position ≡ stand.position + 1 = rw (has.1, has.2) refl in
     omega (arith, within, moved)
 
--- The kernel has a body for each of them.
+-- What its step comes to.
 
-pub some_of : (o : Option Outcome) → is_some o ≡ true → (outcome : Outcome) × (o ≡ Some outcome)
+pub some_of : {X : Type 0} (o : Option X) → is_some o ≡ true → (x : X) × (o ≡ Some x)
 some_of None is = absurd (cc)
-some_of (Some outcome) is = (outcome, refl)
+some_of (Some x) is = (x, refl)
 
-has_body : (c : CoreState) (thread app : ℕ) (asked : Call) → is_built asked ≡ true → is_some (act c thread app asked) ≡ true
-unfolding act
-has_body c thread app (call.NsConnect path) built = absurd (cc)
-has_body c thread app (call.NsSend conn bytes) built = absurd (cc)
-has_body c thread app (call.NsRecv conn timeout) built = absurd (cc)
-has_body c thread app (call.NsClose conn) built = absurd (cc)
-has_body c thread app (call.NsPoke addr bytes) built = absurd (cc)
-has_body c thread app (call.NsKick queue head) built = absurd (cc)
-has_body c thread app _ built = refl
+pub outcome_of : (c : CoreState) (thread app : ℕ) (asked : Call) → is_of_thread asked ≡ true → (outcome : Outcome) × (act c thread app asked ≡ Some outcome)
+outcome_of c thread app asked kind = some_of (act c thread app asked) (thread_body c thread app asked kind)
 
-pub outcome_of : (c : CoreState) (thread app : ℕ) (asked : Call) → is_built asked ≡ true → (outcome : Outcome) × (act c thread app asked ≡ Some outcome)
-outcome_of c thread app asked built = some_of (act c thread app asked) (has_body c thread app asked built)
+pub acted_of : (clock client : ℕ) (w : World) (asked : Call) → is_of_client asked ≡ true → (acted : Acted) × (ns_act clock client asked w ≡ Some acted)
+acted_of clock client w asked kind = some_of (ns_act clock client asked w) (client_body clock client w asked kind)

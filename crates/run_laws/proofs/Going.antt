@@ -1,16 +1,17 @@
--- Runs go on: no serial run of a scene without clients ends before it is whole, unless it is as long as a run may be.
+-- Runs go on: no serial run of a scene whose clients are honest ends before it is whole, unless it is as long as a run may be.
 use Rattle.std.proofs.Common.{◌≡◌, ℕ, zero, suc, ◌+◌, ◌-◌, ◌<◌, Bool, true, false, cond, List, [], ◌∷◌, length, Option, Some, None, refl, ap, sym, ◌∙◌, subst, arith, inl, inr}
 use Rattle.std.specs.Prelude.{◌⊎◌}
-use Rattle.std.specs.List.{find}
+use Rattle.std.specs.List.{find, list_all}
 use Rattle.std.proofs.lemmas.Option.{slice_get_within}
 use Rattle.kernel_values.specs.SceneLaw.{SceneValue, IsLawfulScene, scripts_of}
-use Rattle.kernel_values.specs.declared.entry.ActorStatus.TheVariants as status
+use Rattle.kernel_values.specs.declared.entry.ActorStatus.{ActorStatus}
 use Rattle.kernel_values.specs.declared.entry.Event.{Event}
 use Rattle.kernel_values.specs.declared.scene.Turn.{Turn}
 use Rattle.kernel_values.specs.declared.scene.Turn.TheVariants as turn
 use Rattle.kernel_values.specs.declared.script.Command.{Command}
 use Rattle.kernel_values.specs.declared.state.State.{State}
-use Rattle.kernel_types.specs.Facts.{is_at_end}
+use Rattle.kernel_types.specs.Carried.{is_honest}
+use Rattle.kernel_types.specs.Facts.{is_at_end, status_at}
 use Rattle.kernel_types.specs.Step.{Stepped, step, statuses, device_has_work, idle_lawful}
 use Rattle.kernel_types.specs.Turns.{Run, Outturn, ran, refused, grown, event_of, run_event, run_turn, run_from, run_by, opening_run, takes_turn, actors_in_turn, turn_or_kernel, next_turn, last_after, serial_from, serial_turns, history_limit}
 use Rattle.runners.proofs.Counting.{actors_stay}
@@ -19,7 +20,7 @@ use Rattle.runners.proofs.Ordering.{first_low, whole_at_end}
 use Rattle.runners.specs.Runs.{IsBelow}
 use Rattle.run_laws.specs.Progress.{CanBeTaken, IsWholeOrFull}
 use Rattle.run_laws.proofs.Opening.{placed_at_opening}
-use Rattle.run_laws.proofs.Turning.{AtScripts, Taken, Taking, runs, wakes, taking, actor_taken, kernel_taken, turn_keeps}
+use Rattle.run_laws.proofs.Turning.{AtScripts, Taken, actor_taken, kernel_taken, turn_keeps}
 
 -- The next turn of the serial order is taken.
 
@@ -31,9 +32,9 @@ find_holds : {A : Type 0} (p : A → Bool) (xs : List A) (x : A) → find p xs �
 find_holds p [] x found = absurd (cc)
 find_holds p (first ∷ xs) x found = find_by p x first xs (p first) refl found (λ later. find_holds p xs x later)
 
-within_by : (s : State) (k : ℕ) → Taking s k → k < length (statuses s)
-within_by s k (runs thread start thread_is activity_is is) = slice_get_within (statuses s) k (status.Running start) is
-within_by s k (wakes thread start w thread_is activity_is is moves) = slice_get_within (statuses s) k (status.Waiting start) is
+within_by : (s : State) (k : ℕ) (o : Option ActorStatus) → status_at s k ≡ o → takes_turn s k ≡ true → k < length (statuses s)
+within_by s k None is takes = absurd (cc (rw is at takes))
+within_by s k (Some found) is takes = slice_get_within (statuses s) k found is
 
 kernel_last : (s : State) (last : Option ℕ) (t : Turn) (device idle : Bool) → cond device (Some turn.Device) (cond idle (Some turn.Idle) None) ≡ Some t → last_after last t ≡ last
 kernel_last s last t true idle is = let same : turn.Device ≡ t = cc in subst (λ (u : Turn). last_after last u ≡ last) same refl
@@ -57,7 +58,7 @@ below_by : (scripts : List (List Command)) (run : Run) (last : Option ℕ) (t : 
 below_by scripts run last t (Some k) placed below found is =
     let takes : takes_turn run.state k ≡ true = find_holds (takes_turn run.state) (actors_in_turn last (length (statuses run.state))) k found in
     subst (λ (u : Turn). IsBelow (length (statuses run.state)) (last_after last u)) (let same : turn.Actor k ≡ t = cc in same)
-    (within_by run.state k (taking run.state k placed.alone takes))
+    (within_by run.state k (status_at run.state k) refl takes)
 below_by scripts run last t None placed below found is =
     subst (λ (o : Option ℕ). IsBelow (length (statuses run.state)) o) (sym (kernel_last run.state last t (device_has_work run.state) (idle_lawful run.state) is)) below
 
@@ -114,12 +115,12 @@ serial_ends scripts (suc left) limit k last run left_is placed below =
     ] in
     go (next_turn run.state last) refl
 
-serial_run : (scene : SceneValue) → IsLawfulScene scene → scene.clients ≡ [] → (run : Run) × (run_by scene (serial_turns scene) ≡ ran run) × IsWholeOrFull run
+serial_run : (scene : SceneValue) → IsLawfulScene scene → list_all is_honest scene.clients ≡ true → (run : Run) × (run_by scene (serial_turns scene) ≡ ran run) × IsWholeOrFull run
 unfolding run_by serial_turns
-serial_run scene lawful alone =
+serial_run scene lawful honest =
     let all : history_limit ≡ history_limit - 0 = omega arith in
     let ends : Ends (run_from step (scripts_of scene) 0 (opening_run scene) (serial_from step (scripts_of scene) (history_limit - 0) None (opening_run scene))) (0 + history_limit) =
-    serial_ends (scripts_of scene) history_limit history_limit 0 None (opening_run scene) all (placed_at_opening scene lawful alone) tt in (
+    serial_ends (scripts_of scene) history_limit history_limit 0 None (opening_run scene) all (placed_at_opening scene lawful honest) tt in (
       ends.0,
       ap (λ n. run_from step (scripts_of scene) 0 (opening_run scene) (serial_from step (scripts_of scene) n None (opening_run scene))) all ∙ ends.1,
       elim ends.2 [
@@ -128,12 +129,12 @@ serial_run scene lawful alone =
       ],
     )
 
-pub is_run : (scene : SceneValue) → IsLawfulScene scene → scene.clients ≡ [] → (run : Run) × (run_by scene (serial_turns scene) ≡ ran run)
-is_run scene lawful alone = let r : (run : Run) × (run_by scene (serial_turns scene) ≡ ran run) × IsWholeOrFull run = serial_run scene lawful alone in (r.0, r.1)
+pub is_run : (scene : SceneValue) → IsLawfulScene scene → list_all is_honest scene.clients ≡ true → (run : Run) × (run_by scene (serial_turns scene) ≡ ran run)
+is_run scene lawful honest = let r : (run : Run) × (run_by scene (serial_turns scene) ≡ ran run) × IsWholeOrFull run = serial_run scene lawful honest in (r.0, r.1)
 
-pub whole_or_full : (scene : SceneValue) (run : Run) → IsLawfulScene scene → scene.clients ≡ [] → run_by scene (serial_turns scene) ≡ ran run → IsWholeOrFull run
-whole_or_full scene run lawful alone is =
-    let r : (run : Run) × (run_by scene (serial_turns scene) ≡ ran run) × IsWholeOrFull run = serial_run scene lawful alone in
+pub whole_or_full : (scene : SceneValue) (run : Run) → IsLawfulScene scene → list_all is_honest scene.clients ≡ true → run_by scene (serial_turns scene) ≡ ran run → IsWholeOrFull run
+whole_or_full scene run lawful honest is =
+    let r : (run : Run) × (run_by scene (serial_turns scene) ≡ ran run) × IsWholeOrFull run = serial_run scene lawful honest in
     subst (λ (result : Run). IsWholeOrFull result) (same_ran r.0 run (sym r.1 ∙ is)) r.2
 
 -- Any turns.
@@ -148,19 +149,19 @@ turns_keep scripts k run result (t ∷ turns) placed is =
     ] in
     go (run_turn step scripts run t) refl
 
-placed_after : (scene : SceneValue) (turns : List Turn) (run : Run) → IsLawfulScene scene → scene.clients ≡ [] → run_by scene turns ≡ ran run → AtScripts (scripts_of scene) run
+placed_after : (scene : SceneValue) (turns : List Turn) (run : Run) → IsLawfulScene scene → list_all is_honest scene.clients ≡ true → run_by scene turns ≡ ran run → AtScripts (scripts_of scene) run
 unfolding run_by
-placed_after scene turns run lawful alone is = turns_keep (scripts_of scene) 0 (opening_run scene) run turns (placed_at_opening scene lawful alone) is
+placed_after scene turns run lawful honest is = turns_keep (scripts_of scene) 0 (opening_run scene) run turns (placed_at_opening scene lawful honest) is
 
 can_be_taken : (scene : SceneValue) (run : Run) (t : Turn) → Taken (scripts_of scene) run t → CanBeTaken scene run t
 can_be_taken scene run t taken = (taken.next, taken.took)
 
-pub actor_takes : (scene : SceneValue) (turns : List Turn) (run : Run) (actor : ℕ) → IsLawfulScene scene → scene.clients ≡ [] → run_by scene turns ≡ ran run
+pub actor_takes : (scene : SceneValue) (turns : List Turn) (run : Run) (actor : ℕ) → IsLawfulScene scene → list_all is_honest scene.clients ≡ true → run_by scene turns ≡ ran run
     → takes_turn run.state actor ≡ true → CanBeTaken scene run (turn.Actor actor)
-actor_takes scene turns run actor lawful alone is takes =
-    can_be_taken scene run (turn.Actor actor) (actor_taken (scripts_of scene) run actor (placed_after scene turns run lawful alone is) takes)
+actor_takes scene turns run actor lawful honest is takes =
+    can_be_taken scene run (turn.Actor actor) (actor_taken (scripts_of scene) run actor (placed_after scene turns run lawful honest is) takes)
 
-pub next_takes : (scene : SceneValue) (turns : List Turn) (run : Run) (last : Option ℕ) (next : Turn) → IsLawfulScene scene → scene.clients ≡ [] → run_by scene turns ≡ ran run
+pub next_takes : (scene : SceneValue) (turns : List Turn) (run : Run) (last : Option ℕ) (next : Turn) → IsLawfulScene scene → list_all is_honest scene.clients ≡ true → run_by scene turns ≡ ran run
     → next_turn run.state last ≡ Some next → CanBeTaken scene run next
-next_takes scene turns run last next lawful alone is next_is =
-    can_be_taken scene run next (next_taken (scripts_of scene) run last next (placed_after scene turns run lawful alone is) next_is)
+next_takes scene turns run last next lawful honest is next_is =
+    can_be_taken scene run next (next_taken (scripts_of scene) run last next (placed_after scene turns run lawful honest is) next_is)

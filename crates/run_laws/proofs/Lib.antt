@@ -1,8 +1,12 @@
 pub mod Quieting
+pub mod Callers
 pub mod Places
 pub mod Acting
 pub mod Calling
 pub mod Longer
+pub mod Bridging
+pub mod ClientPlaces
+pub mod ClientSteps
 pub mod Stepping
 pub mod Turning
 pub mod Opening

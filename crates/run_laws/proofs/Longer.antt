@@ -61,7 +61,7 @@ module _ (scripts : List (List Command)) (entries : List Entry) (entry : Entry) 
   silent_same : (j s : ℕ) → answer_by j s entry ≡ None → answers_in j s longer ≡ answers_in j s entries
   silent_same j s silent = answers_more j s entries entry None silent ∙ append-nil _
 
-  stood_same : (script : List Command) (j s : ℕ) → answer_by j s entry ≡ None → stood script j s longer ≡ stood script j s entries
+  pub stood_same : (script : List Command) (j s : ℕ) → answer_by j s entry ≡ None → stood script j s longer ≡ stood script j s entries
   stood_same script j s silent = ap (λ (answers : List Answer). stand_on script script_begin answers) (silent_same j s silent)
 
   stood_on : (script : List Command) (j s : ℕ) (given : Answer) → answer_by j s entry ≡ Some given → stood script j s longer ≡ answered script (stood script j s entries) given
@@ -83,11 +83,12 @@ module _ (scripts : List (List Command)) (entries : List Entry) (entry : Entry) 
   fits_longer j script (activity.Waiting start wait) silent fits = subst (λ stand. HasCommand script stand) (sym (stood_same script j start (silent start))) fits
   fits_longer j script (activity.Ended start) silent fits = tt
 
-  -- of an entry that answers nothing
-  pub all_longer : (c : CoreState) → ((j s : ℕ) → answer_by j s entry ≡ None) → AllStand scripts entries c → AllStand scripts longer c
+  -- of an entry that answers nothing of a thread
+  pub all_longer : (c : CoreState) → ((j : ℕ) (thread : Thread) → slice_get c.threads j ≡ Some thread → (s : ℕ) → answer_by j s entry ≡ None)
+      → AllStand scripts entries c → AllStand scripts longer c
   all_longer c silent all j thread is = record {
-    known = known_longer (starts_of c.apps) j thread.app (start_of thread.activity) (λ s past. silent j s) (all j thread is).known;
-    fits = λ script script_is. fits_longer j script thread.activity (λ s. silent j s) ((all j thread is).fits script script_is);
+    known = known_longer (starts_of c.apps) j thread.app (start_of thread.activity) (λ s past. silent j thread is s) (all j thread is).known;
+    fits = λ script script_is. fits_longer j script thread.activity (λ s. silent j thread is s) ((all j thread is).fits script script_is);
   }
 
   -- the command's call is answered, or it waits

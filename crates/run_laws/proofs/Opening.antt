@@ -1,11 +1,11 @@
--- In the state in which a scene begins, every thread stands at its script.
-use Rattle.std.proofs.Common.{◌≡◌, ℕ, zero, suc, ◌+◌, ◌≤◌, Bool, true, false, cond, List, [], ◌∷◌, ◌++◌, map, Some, refl, ap, sym, ◌∙◌, subst, arith, append-nil, inl, inr}
+-- In the state in which a scene begins, every thread and every honest client stands at its script.
+use Rattle.std.proofs.Common.{◌≡◌, ℕ, zero, suc, ◌+◌, ◌≤◌, Bool, true, false, cond, List, [], ◌∷◌, ◌++◌, length, map, Some, refl, ap, sym, ◌∙◌, subst, arith, inl, inr, length-append}
+use Rattle.std.proofs.lemmas.List.{length-map}
 use Rattle.std.specs.Prelude.{◌⊎◌, slice_get, ◌&&◌}
 use Rattle.std.specs.List.{flat_map, enumerate_from, list_all}
-use Rattle.kernel_values.specs.Commands.{is_thread_call, can_be_spelled}
-use Rattle.kernel_values.specs.SceneLaw.{SceneValue, IsLawfulScene, scripts_of, is_lawful_app, is_lawful_thread_command}
-use Rattle.kernel_values.specs.declared.call.Call.{Call}
-use Rattle.kernel_values.specs.declared.call.Call.TheVariants as call
+use Rattle.kernel_values.specs.Commands.{is_client_call, is_thread_call, can_be_spelled}
+use Rattle.kernel_values.specs.SceneLaw.{SceneValue, IsLawfulScene, scripts_of, is_lawful_app, is_lawful_client, is_lawful_client_command, is_lawful_thread_command}
+use Rattle.kernel_values.specs.Words.{is_name}
 use Rattle.kernel_values.specs.declared.scene.App.{App}
 use Rattle.kernel_values.specs.declared.scene.Client.{Client}
 use Rattle.kernel_values.specs.declared.scene.Manifest.{Manifest}
@@ -14,14 +14,17 @@ use Rattle.kernel_values.specs.declared.state.Activity.{Activity}
 use Rattle.kernel_values.specs.declared.state.Activity.TheVariants as activity
 use Rattle.kernel_values.specs.declared.state.Application.{Application}
 use Rattle.kernel_values.specs.declared.state.Thread.{Thread}
-use Rattle.kernel_types.specs.Built.{is_built}
+use Rattle.kernel_values.specs.declared.world.ClientState.{ClientState}
+use Rattle.kernel_types.specs.Carried.{is_honest, is_honest_call}
 use Rattle.kernel_types.specs.Opening.{opening, opening_app, opening_starts, opening_activity, opening_threads, opening_client}
 use Rattle.kernel_types.specs.Scripts.{script_begin}
 use Rattle.kernel_types.specs.Turns.{opening_run}
 use Rattle.kernel_types.specs.Whole.{answers_in}
 use Rattle.runners.proofs.Quiet.{starts_of}
-use Rattle.run_laws.proofs.Places.{IsCallable, stood, HasCall, Fits, Stands, start_of, get_map}
-use Rattle.run_laws.proofs.Turning.{AtScripts}
+use Rattle.run_laws.proofs.Callers.{by_client, by_thread, is_of_client, is_of_thread}
+use Rattle.run_laws.proofs.ClientPlaces.{ClientStands, ClientsStand}
+use Rattle.run_laws.proofs.Places.{IsCallable, stood, HasCall, Fits, Stands, start_of, get_map, map_get}
+use Rattle.run_laws.proofs.Turning.{AtScripts, get_behind}
 
 -- The commands of a lawful scene's threads are system calls.
 
@@ -38,24 +41,14 @@ all_at p [] k x h is = absurd (cc)
 all_at p (first ∷ xs) zero x h is = ap p (let same : x ≡ first = cc in same) ∙ first_of (p first) (list_all p xs) h
 all_at p (first ∷ xs) (suc k) x h is = all_at p xs k x (second_of (p first) (list_all p xs) h) is
 
-built_by_thread : (asked : Call) → is_thread_call asked ≡ true → is_built asked ≡ true
-built_by_thread call.Finish h = absurd (cc)
-built_by_thread (call.NsConnect path) h = absurd (cc)
-built_by_thread (call.NsSend conn bytes) h = absurd (cc)
-built_by_thread (call.NsRecv conn timeout) h = absurd (cc)
-built_by_thread (call.NsClose conn) h = absurd (cc)
-built_by_thread (call.NsPoke addr bytes) h = absurd (cc)
-built_by_thread (call.NsKick queue head) h = absurd (cc)
-built_by_thread _ h = refl
-
 lawful_scripts : (app : App) → is_lawful_app app ≡ true → list_all (list_all is_lawful_thread_command) app.threads ≡ true
 lawful_scripts app lawful = second_of _ _ (first_of _ _ (first_of _ _ lawful))
 
-callable : (app : App) (k : ℕ) (script : List Command) → is_lawful_app app ≡ true → slice_get app.threads k ≡ Some script → IsCallable script
+callable : (app : App) (k : ℕ) (script : List Command) → is_lawful_app app ≡ true → slice_get app.threads k ≡ Some script → IsCallable is_of_thread script
 callable app k script lawful is place command command_is =
     let lawful_script : list_all is_lawful_thread_command script ≡ true = all_at (list_all is_lawful_thread_command) app.threads k script (lawful_scripts app lawful) is in
     let lawful_command : is_lawful_thread_command command ≡ true = all_at is_lawful_thread_command script place command lawful_script command_is in
-    built_by_thread command.call (first_of (is_thread_call command.call) (can_be_spelled command.call) lawful_command)
+    by_thread command.call (first_of (is_thread_call command.call) (can_be_spelled command.call) lawful_command)
 
 -- Each thread is of an application of the scene, and has one of its scripts.
 
@@ -67,7 +60,7 @@ record Opened (place : ℕ) (apps : List App) (k : ℕ) (thread : Thread) : Type
   place_is : thread.app ≡ place + at
   activity_is : thread.activity ≡ opening_activity app.manifest
   script_is : slice_get (flat_map (λ (a : App). a.threads) apps) k ≡ Some script
-  callable_is : IsCallable script
+  callable_is : IsCallable is_of_thread script
 
 -- an item of a list in two parts, and one at the same place beside it
 part_of : {X Y : Type 0} (f : X → Y) (xs others : List X) (more : List Y) (k : ℕ) (y : Y) → slice_get (map f xs ++ more) k ≡ Some y
@@ -119,9 +112,10 @@ at_beginning k start script = omega arith
 fits_opened : (k : ℕ) (script : List Command) (manifest : Manifest) → Fits [] k script (opening_activity manifest)
 fits_opened k script manifest = elim manifest.deferred as (λ b. Fits [] k script (cond b activity.Off (activity.Running 1))) [ true ↦ tt | false ↦ at_beginning k 1 script ]
 
-stands_opened : (scripts : List (List Command)) (apps : List App) (k : ℕ) (thread : Thread) → scripts ≡ flat_map (λ (a : App). a.threads) apps → Opened 0 apps k thread
+stands_opened : (scripts : List (List Command)) (apps : List App) (k : ℕ) (thread : Thread)
+    → ((script : List Command) → slice_get (flat_map (λ (a : App). a.threads) apps) k ≡ Some script → slice_get scripts k ≡ Some script) → Opened 0 apps k thread
     → Stands scripts [] (starts_of (map opening_app apps)) k thread
-stands_opened scripts apps k thread scripts_are o =
+stands_opened scripts apps k thread listed o =
     let place_is : thread.app ≡ o.at = omega (arith, o.place_is) in
     let starts_are : slice_get (starts_of (map opening_app apps)) o.at ≡ Some (opening_starts o.app.manifest) =
     get_map (λ (a : Application). a.starts) (map opening_app apps) o.at (opening_app o.app) (get_map opening_app apps o.at o.app o.app_is) in
@@ -135,18 +129,66 @@ stands_opened scripts apps k thread scripts_are o =
         bound = within;
         later = λ n s n_is past. none_before k s;
         script = o.script;
-        script_is = ap (λ (ss : List (List Command)). slice_get ss k) scripts_are ∙ o.script_is;
+        script_is = listed o.script o.script_is;
         callable = o.callable_is;
       };
       fits = λ script script_is. subst (λ (a : Activity). Fits [] k script a) (sym o.activity_is) (fits_opened k script o.app.manifest);
     }
 
-pub placed_at_opening : (scene : SceneValue) → IsLawfulScene scene → scene.clients ≡ [] → AtScripts (scripts_of scene) (opening_run scene)
+-- Each client stands behind the threads, and has its script.
+
+client_callable : (client : Client) → is_lawful_client client ≡ true → is_honest client ≡ true → IsCallable is_of_client client.script
+client_callable client lawful honest place command is =
+    let lawful_script : list_all is_lawful_client_command client.script ≡ true = second_of (is_name client.name) (list_all is_lawful_client_command client.script) lawful in
+    let lawful_command : is_lawful_client_command command ≡ true = all_at is_lawful_client_command client.script place command lawful_script is in
+    let honest_command : is_honest_call command.call ≡ true = all_at (λ (c : Command). is_honest_call c.call) client.script place command honest is in
+    by_client command.call (first_of (is_client_call command.call) (can_be_spelled command.call) lawful_command) honest_command
+
+abbrev threads_from : ℕ → List App → List Thread
+threads_from place apps = flat_map opening_threads (enumerate_from place apps)
+
+abbrev thread_scripts : List App → List (List Command)
+thread_scripts apps = flat_map (λ (a : App). a.threads) apps
+
+-- as many threads as scripts of threads
+threads_many : (place : ℕ) (apps : List App) → length (threads_from place apps) ≡ length (thread_scripts apps)
+threads_many place [] = refl
+threads_many place (app ∷ apps) =
+    let own : length (opening_threads (place, app)) ≡ length app.threads = length-map app.threads _ in
+    length-append (opening_threads (place, app)) (threads_from (place + 1) apps)
+    ∙ ((ap (λ n. n + length (threads_from (place + 1) apps)) own ∙ ap (λ n. length app.threads + n) (threads_many (place + 1) apps))
+    ∙ sym (length-append app.threads (thread_scripts apps)))
+
+client_opened : (scripts : List (List Command)) (actor : ℕ) (client : Client) → slice_get scripts actor ≡ Some client.script → is_lawful_client client ≡ true → is_honest client ≡ true
+    → ClientStands scripts [] actor (opening_client client).activity
+client_opened scripts actor client script_is lawful honest = record {
+  script = client.script;
+  script_is = script_is;
+  callable = client_callable client lawful honest;
+  fits = at_beginning actor 1 client.script;
+}
+
+clients_opened : (scene : SceneValue) → IsLawfulScene scene → list_all is_honest scene.clients ≡ true
+    → ClientsStand (scripts_of scene) [] (length (threads_from 0 scene.apps)) (map opening_client scene.clients)
+clients_opened scene lawful honest k client is =
+    let threads : ℕ = length (threads_from 0 scene.apps) in
+    let from : (x : Client) × (slice_get scene.clients k ≡ Some x) × (opening_client x ≡ client) = map_get opening_client scene.clients k client is in
+    let behind : slice_get (scripts_of scene) (threads + k) ≡ Some from.0.script =
+    ap (λ n. slice_get (scripts_of scene) (n + k)) (threads_many 0 scene.apps)
+    ∙ (get_behind (thread_scripts scene.apps) (map (λ (c : Client). c.script) scene.clients) k ∙ get_map (λ (c : Client). c.script) scene.clients k from.0 from.1) in
+    subst (λ (x : ClientState). ClientStands (scripts_of scene) [] (threads + k) x.activity) from.2
+    (client_opened (scripts_of scene) (threads + k) from.0 behind (all_at is_lawful_client scene.clients k from.0 lawful.clients from.1) (all_at is_honest scene.clients k from.0 honest from.1))
+
+get_front : {X : Type 0} (xs more : List X) (k : ℕ) (x : X) → slice_get xs k ≡ Some x → slice_get (xs ++ more) k ≡ Some x
+get_front [] more k x is = absurd (cc)
+get_front (first ∷ xs) more zero x is = is
+get_front (first ∷ xs) more (suc k) x is = get_front xs more k x is
+
+pub placed_at_opening : (scene : SceneValue) → IsLawfulScene scene → list_all is_honest scene.clients ≡ true → AtScripts (scripts_of scene) (opening_run scene)
 unfolding opening
-placed_at_opening scene lawful alone =
-    let scripts_are : scripts_of scene ≡ flat_map (λ (a : App). a.threads) scene.apps =
-    ap (λ (clients : List Client). flat_map (λ (a : App). a.threads) scene.apps ++ map (λ (client : Client). client.script) clients) alone ∙ append-nil _ in
-    record {
-      all = λ k thread is. stands_opened (scripts_of scene) scene.apps k thread scripts_are (opened 0 scene.apps k thread lawful.apps is);
-      alone = ap (λ (clients : List Client). map opening_client clients) alone;
-    }
+placed_at_opening scene lawful honest = record {
+  all = λ k thread is. stands_opened (scripts_of scene) scene.apps k thread
+      (λ script script_is. get_front (thread_scripts scene.apps) (map (λ (c : Client). c.script) scene.clients) k script script_is)
+      (opened 0 scene.apps k thread lawful.apps is);
+  clients = clients_opened scene lawful honest;
+}

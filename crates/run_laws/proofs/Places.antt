@@ -3,6 +3,7 @@ use Rattle.std.proofs.Common.{◌≡◌, ℕ, zero, suc, ◌+◌, ◌<◌, ◌�
 use Rattle.std.proofs.lemmas.Bool.Decides.{nat_tests}
 use Rattle.std.specs.Prelude.{◌⊎◌, slice_get, slice_set, ◌==◌, ⊤}
 use Rattle.std.specs.Option.{option_map}
+use Rattle.kernel_values.specs.declared.call.Call.{Call}
 use Rattle.kernel_values.specs.declared.entry.Entry.{Entry}
 use Rattle.kernel_values.specs.declared.script.Command.{Command}
 use Rattle.kernel_values.specs.declared.state.Activity.{Activity}
@@ -12,17 +13,17 @@ use Rattle.kernel_values.specs.declared.state.CoreState.{CoreState}
 use Rattle.kernel_values.specs.declared.state.Thread.{Thread}
 use Rattle.kernel_values.specs.declared.state.Wait.{Wait}
 use Rattle.kernel_types.specs.Applications.{started, started_as, started_app, started_thread, ended_app, ended_activity, ended_thread, without_app, application_ended, is_started_again}
-use Rattle.kernel_types.specs.Built.{is_built}
 use Rattle.kernel_types.specs.Objects.{set_if, map_at}
 use Rattle.kernel_types.specs.Scripts.{Stand, script_begin, stand_on, is_exit}
 use Rattle.kernel_types.specs.CoreStep.{cancelled_activity, core_idle}
 use Rattle.kernel_types.specs.Threads.{with_activity, activity_changed, waiting_activity, running_activity}
 use Rattle.kernel_types.specs.Whole.{answers_in}
 use Rattle.runners.proofs.Quiet.{Quiet, starts_of, starts_stay}
+use Rattle.run_laws.proofs.Callers.{is_of_thread}
 
--- every command is a system call
-abbrev pub IsCallable : List Command → Type 0
-IsCallable script = (place : ℕ) (command : Command) → slice_get script place ≡ Some command → is_built command.call ≡ true
+-- every command's call is of this kind
+abbrev pub IsCallable : (Call → Bool) → List Command → Type 0
+IsCallable of_kind script = (place : ℕ) (command : Command) → slice_get script place ≡ Some command → of_kind command.call ≡ true
 
 abbrev pub stood : List Command → ℕ → ℕ → List Entry → Stand
 stood script k start entries = stand_on script script_begin (answers_in k start entries)
@@ -54,7 +55,7 @@ pub record Known (scripts : List (List Command)) (entries : List Entry) (starts 
   pub later : (n s : ℕ) → slice_get starts app ≡ Some n → n < s → answers_in k s entries ≡ []
   pub script : List Command
   pub script_is : slice_get scripts k ≡ Some script
-  pub callable : IsCallable script
+  pub callable : IsCallable is_of_thread script
 
 abbrev pub FitsAt : List (List Command) → List Entry → ℕ → Activity → Type 0
 FitsAt scripts entries k a = (script : List Command) → slice_get scripts k ≡ Some script → Fits entries k script a

@@ -18,7 +18,6 @@ use Rattle.kernel_values.specs.declared.state.State.{State}
 use Rattle.kernel_values.specs.declared.state.Thread.{Thread}
 use Rattle.kernel_values.specs.declared.state.Wait.{Wait}
 use Rattle.kernel_types.specs.Applications.{exit, finish, application_ended, thread_ended, is_elsewhere_or_over}
-use Rattle.kernel_types.specs.Built.{is_built}
 use Rattle.kernel_types.specs.Objects.{map_at}
 use Rattle.kernel_types.specs.Outcome.{Outcome}
 use Rattle.kernel_types.specs.CoreStep.{act, swept, core_begin, resumed, core_resume, core_idle}
@@ -29,6 +28,7 @@ use Rattle.kernel_types.specs.Waits.{end_of_wait}
 use Rattle.kernel_types.proofs.Actors.{thread_is_thread}
 use Rattle.runners.proofs.Quiet.{Quiet, starts_of}
 use Rattle.run_laws.proofs.Acting.{is_ending, Upheld, act_upholds}
+use Rattle.run_laws.proofs.Callers.{is_of_thread, thread_built}
 use Rattle.run_laws.proofs.Calling.{IsNext}
 use Rattle.run_laws.proofs.Longer.{self_is, IsOf, begin_is_of, resume_is_of, longer, all_longer, all_answered, others_longer, known_after, answered_fits, waits_fits}
 use Rattle.run_laws.proofs.Places.{stood, HasCommand, Fits, FitsAt, Known, Stands, AllKnown, AllStand, OthersFit, start_of, same_start_ended, fits_ended, map_at_get, apart, quiet_stands, waiting_stands, running_stands, started_stands, ended_stands, idle_stands}
@@ -133,7 +133,7 @@ module _ (scripts : List (List Command)) (entries : List Entry) (c : CoreState) 
   act_stands asked outcome false ends r has is = act_upholds c k (call_upheld r (has ends) asked) thread.app asked outcome ends is outcome.seqs
 
   pub begin_stands : (script : List Command) (asked : Call) (outcome : Outcome) → AllStand scripts entries c → slice_get c.threads k ≡ Some thread → thread.activity ≡ activity.Running start
-      → slice_get scripts k ≡ Some script → IsNext script (stood script k start entries) asked → act c k thread.app asked ≡ Some outcome
+      → slice_get scripts k ≡ Some script → IsNext is_of_thread script (stood script k start entries) asked → act c k thread.app asked ≡ Some outcome
       → AllStand scripts (entries ++ begin_entry asked outcome ∷ []) (swept outcome).core
   begin_stands script asked outcome all thread_is activity_is script_is next is =
       let r : Runs = record { all = all; thread_is = thread_is; activity_is = activity_is } in
@@ -172,14 +172,15 @@ pub idle_after : (scripts : List (List Command)) (entries : List Entry) (s : Sta
 idle_after scripts entries s all =
     let entry : Entry = entry_with event.Idle (idle s).answer (idle s).seqs in
     swept_stands scripts (entries ++ entry ∷ []) (core_idle (next_deadline s) s.core)
-    (idle_stands scripts (entries ++ entry ∷ []) s.core (next_deadline s) (all_longer scripts entries entry s.core (λ j start. refl) all))
+    (idle_stands scripts (entries ++ entry ∷ []) s.core (next_deadline s) (all_longer scripts entries entry s.core (λ j thread is start. refl) all))
 
 -- The steps of the whole state.
 
 pub begin_step : (s : State) (k start : ℕ) (thread : Thread) (asked : Call) (outcome : Outcome) → slice_get s.core.threads k ≡ Some thread → thread.activity ≡ activity.Running start
-    → is_built asked ≡ true → act s.core k thread.app asked ≡ Some outcome → step s (event.Begin (record { 0 = k }) start asked) ≡ Some (in_world s.world (swept outcome))
+    → is_of_thread asked ≡ true → act s.core k thread.app asked ≡ Some outcome → step s (event.Begin (record { 0 = k }) start asked) ≡ Some (in_world s.world (swept outcome))
 unfolding step full_step core_begin
-begin_step s k start thread asked outcome thread_is activity_is built is = rw (built, thread_is_thread s k thread thread_is, thread_is, activity_is, self_is start, is) refl
+begin_step s k start thread asked outcome thread_is activity_is kind is =
+    rw (thread_built asked kind, thread_is_thread s k thread thread_is, thread_is, activity_is, self_is start, is) refl
 
 pub resume_step : (s : State) (k start : ℕ) (thread : Thread) (w : Wait) (outcome : Outcome) → slice_get s.core.threads k ≡ Some thread → thread.activity ≡ activity.Waiting start w
     → end_of_wait s.core thread.app w ≡ Some outcome → step s (event.Resume (record { 0 = k }) start) ≡ Some (in_world s.world (resumed k outcome))
