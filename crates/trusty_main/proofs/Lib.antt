@@ -1,4 +1,3 @@
-pub mod Alone
 pub mod Commanding
 pub mod Headline
 pub mod Reporting

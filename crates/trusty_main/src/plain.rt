@@ -1,6 +1,6 @@
 //! The commands that take no threads: from the words and the input to what is written and the status.
 
-ghost use Rattle.std.specs.Prelude.{◌≡◌, ◌≢◌, ◌≤◌, ◌⊎◌, [], Some, None, Ok, map, length, string_bytes, IfSome};
+ghost use Rattle.std.specs.Prelude.{◌≡◌, ◌≢◌, ◌≤◌, ◌⊎◌, Some, None, Ok, map, length, string_bytes, IfOk, IfSome};
 ghost use Rattle.std.specs.Io.KnownBytes.{Appends, Keeps, IsAtEnd};
 ghost use Rattle.outside_io.specs.Faults.{Rose};
 ghost use Rattle.outside_io.specs.Reading.{TakesMore};
@@ -16,17 +16,27 @@ use crate::plan::{Order, Plan, plan_of};
 use crate::status::Status;
 use crate::telling::{tell_fault, tell_report, tell_too_long, tell_turn, tell_usage};
 use kernel_types::IpcKernel;
-use kernel_types::values::Scene;
+use kernel_types::values::{NoMemory, Scene};
+use ns_bridge::Kernel;
 use outside_io::{INPUT_LIMIT, ReadRefused, Sink, Source, read_all};
 use plain_kernel::PlainKernel;
 use report_text::Form;
 use runners::{ReplayRefused, RunRefused, replay, serial};
-use scene_laws::{scenes_have_no_clients, turns_take_bytes};
+use scene_laws::turns_take_bytes;
 use scene_reader::{SceneRefused, read_scene};
 use std::alloc::Global;
 
 /// The program's kernel.
-pub type ProgramKernel = PlainKernel;
+pub type ProgramKernel = Kernel<PlainKernel>;
+
+/// The program's kernel in the state in which the scene begins.
+pub fn program_kernel(alloc: Global, scene: &Scene) -> Result<ProgramKernel, NoMemory>
+    ensures state { IfOk result (λ kernel. kernel.state ≡ opening scene.now) }
+    ensures made { IfOk result (λ kernel. kernel.made ≡ 0) }
+{
+    let core = PlainKernel::new(alloc, scene)?;
+    Kernel::new(alloc, core, scene)
+}
 
 /// Runs the command that the words give: reads a scene to the source's end, runs it, and writes the
 /// report. `run` takes threads, and is no command here.
@@ -86,7 +96,6 @@ fn answer<K: Sink>(alloc: Global, plan: Plan, input: &[u8], sink: &mut K) -> Sta
     match read_scene(alloc, input) {
         Ok(scene) => {
             turns_take_bytes();
-            scenes_have_no_clients();
             run(alloc, plan, &scene, sink)
         }
         Err(SceneRefused::Fault(fault)) => tell_fault(alloc, &fault, sink),
@@ -94,15 +103,13 @@ fn answer<K: Sink>(alloc: Global, plan: Plan, input: &[u8], sink: &mut K) -> Sta
     }
 }
 
-#[tactic(auto, using(crate::proofs::Alone::alone_opening))]
 fn run<K: Sink>(alloc: Global, plan: Plan, scene: &Scene, sink: &mut K) -> Status
     requires turns { length scene.now.turns ≤ history_limit }
-    requires alone { scene.now.clients ≡ [] }
     ensures tells { Tells (due_of_scene plan (Ok scene.now)) (K.written sink.old) (K.written sink.new) (K.faults sink.old) (K.faults sink.new) result }
     ensures done { result ≡ Status.Done → IsWholeRun plan.order scene.now }
     ensures endless { result ≡ Status.RunTooLong → IsEndless plan.order scene.now }
 {
-    let Ok(kernel) = ProgramKernel::new(alloc, scene) else {
+    let Ok(kernel) = program_kernel(alloc, scene) else {
         return Status::NoMemory;
     };
     match plan.order {

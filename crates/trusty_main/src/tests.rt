@@ -53,6 +53,13 @@ fn rows(rt: HostRuntime) -> Result<(), Fail> {
             "refused line 2: unknown word\n",
             Status::InputRefused,
         ),
+        (
+            "serial",
+            "scene 1\nqueues 2\nclient c\nnconnect nosuch\n",
+            "history 6\n0 c nconnect nosuch -> waits\n1 device -> sent go_online\n2 device -> took conn_req 1024 nosuch\n\
+3 device -> sent conn_rsp 1024 3 0 0 0\n4 c resume -> refused NOT_FOUND\n5 c finish -> done\nend clock 0 objects 0 names 0\n",
+            Status::Done,
+        ),
         ("replay", SCENE, "turn 0 refused\n", Status::TurnRefused),
         (
             "run",

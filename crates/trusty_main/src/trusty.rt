@@ -1,6 +1,6 @@
 //! The top call: from the words and the input to what is written and the status.
 
-ghost use Rattle.std.specs.Prelude.{◌≡◌, ◌≢◌, ◌≤◌, ◌⊎◌, [], Some, None, Ok, map, length, string_bytes, IfNone, IfSome};
+ghost use Rattle.std.specs.Prelude.{◌≡◌, ◌≢◌, ◌≤◌, ◌⊎◌, Some, None, Ok, map, length, string_bytes, IfNone, IfSome};
 ghost use Rattle.std.specs.Io.KnownBytes.{Appends, Keeps, IsAtEnd};
 ghost use Rattle.outside_io.specs.Faults.{Rose};
 ghost use Rattle.outside_io.specs.Reading.{TakesMore};
@@ -10,7 +10,7 @@ ghost use Rattle.trusty_main.specs.Answers.{HasScene};
 ghost use Rattle.trusty_main.specs.Commanded.{AppendsSomeOf, GetsDueOf, HasCommand, IsDue, IsDueOfScene, IsPlain, IsReported, TellsSome, ToldOf, form_of};
 ghost use Rattle.trusty_main.specs.Texts.{usage_text};
 
-use crate::plain::{ProgramKernel, trusty_plain};
+use crate::plain::{program_kernel, trusty_plain};
 use crate::status::Status;
 use crate::telling::{tell_fault, tell_report, tell_too_long};
 use command_line::{Command, command_of};
@@ -18,7 +18,6 @@ use kernel_types::values::Scene;
 use outside_io::{INPUT_LIMIT, ReadRefused, Sink, Source, read_all};
 use report_text::Form;
 use runners::{Hook, RunRefused, threads};
-use scene_laws::scenes_have_no_clients;
 use scene_reader::{SceneRefused, read_scene};
 use std::alloc::Global;
 use std::sync::Wait;
@@ -132,16 +131,13 @@ fn answer<R: Threads + Wait + Sync, K: Sink, H: Hook + Sync>(
     ensures tells { TellsSome (IsDue (Command.Run form) input.now) (K.written sink.old) (K.written sink.new) (K.faults sink.old) (K.faults sink.new) result }
 {
     match read_scene(alloc, input) {
-        Ok(scene) => {
-            scenes_have_no_clients();
-            run_scene(rt, alloc, form, &scene, sink, hook)
-        }
+        Ok(scene) => run_scene(rt, alloc, form, &scene, sink, hook),
         Err(SceneRefused::Fault(fault)) => tell_fault(alloc, &fault, sink),
         Err(SceneRefused::NoMemory) => Status::NoMemory,
     }
 }
 
-#[tactic(auto, using(crate::proofs::Commanding::whole_told, crate::proofs::Commanding::limit_told, crate::proofs::Commanding::untold, crate::proofs::Alone::alone_opening))]
+#[tactic(auto, using(crate::proofs::Commanding::whole_told, crate::proofs::Commanding::limit_told, crate::proofs::Commanding::untold))]
 fn run_scene<R: Threads + Wait + Sync, K: Sink, H: Hook + Sync>(
     rt: &R,
     alloc: Global,
@@ -150,10 +146,9 @@ fn run_scene<R: Threads + Wait + Sync, K: Sink, H: Hook + Sync>(
     sink: &mut K,
     hook: &H,
 ) -> Status
-    requires { scene.now.clients ≡ [] }
     ensures tells { TellsSome (IsDueOfScene (Command.Run form) (Ok scene.now)) (K.written sink.old) (K.written sink.new) (K.faults sink.old) (K.faults sink.new) result }
 {
-    let Ok(kernel) = ProgramKernel::new(alloc, scene) else {
+    let Ok(kernel) = program_kernel(alloc, scene) else {
         return Status::NoMemory;
     };
     match threads(rt, alloc, kernel, scene, hook) {

@@ -10,10 +10,7 @@ use Rattle.trusty_main.proofs.plain.answer.Goals as goal
 
 pub run-requires : goal.run-requires
 unfolding history_limit
-run-requires g c = record {
-  turns = omega (arith, c.turns_take_bytes.ensures c.args.input.now c.in-Ok.scene c.in-Ok.ensures, c.requires);
-  alone = c.scenes_have_no_clients.ensures c.args.input.now c.in-Ok.scene c.in-Ok.ensures;
-}
+run-requires g c = omega (arith, c.turns_take_bytes.ensures c.args.input.now c.in-Ok.scene c.in-Ok.ensures, c.requires)
 
 pub returns-in-Ok-clause-tells : goal.returns-in-Ok-clause-tells
 returns-in-Ok-clause-tells g c = tells_due (read_is_due c.args.plan c.args.input.now _ c.in-Ok.ensures) c.run.ensures.tells
