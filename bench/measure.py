@@ -21,6 +21,7 @@ KINDS = [
     ("printing", 50_000, "serial", "history"),
     ("messages", 500, "serial", "summary"),
     ("messages", 500, "run", "summary"),
+    ("bridge", 500, "serial", "summary"),
     ("members", 8, "serial", "summary"),
     ("members", 32, "serial", "summary"),
     ("actors", 8, "serial", "summary"),

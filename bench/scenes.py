@@ -4,6 +4,7 @@
   scenes.py reading N      about N bytes of lines, most of them long `mwrite` lines of hexadecimal bytes
   scenes.py printing N     a run of about N entries: waits that time out
   scenes.py messages N     N requests and replies between two applications
+  scenes.py bridge N       N requests and replies between a client of the normal world and an application
   scenes.py members N      one set with N members (at most 64), of which the last has the event, waited on 200 times
   scenes.py actors N       N threads that each make 50 sets and close them
   scenes.py empty 0        no application
@@ -42,6 +43,13 @@ def messages(rounds):
     return ["scene 1", *server, *client]
 
 
+def bridge(rounds):
+    server = ["app server", "thread", "port com.example.bench 2 64 ns as p", "wait $p -1", "accept $p as c", "repeat %d" % rounds]
+    server += ["wait $c -1", "get $c as m", "read $c $m 0 64 0", "put $c $m", "send $c fill:32:66", "end", "wait $c -1", "close $c"]
+    client = ["client one", "nconnect com.example.bench as k", "repeat %d" % rounds, "nsend $k fill:32:65", "nrecv $k -1", "end", "nclose $k"]
+    return ["scene 1", *server, *client]
+
+
 def members(count):
     # A set whose last member alone has the event. A table has 64 numbers, so the members are duplicates of one end, and
     # all 64 numbers are labels only where the set's own number becomes one as well: its set then goes by another.
@@ -66,7 +74,7 @@ def actors(count):
     return lines
 
 
-KINDS = {"reading": reading, "printing": printing, "messages": messages, "members": members, "actors": actors, "empty": lambda _: ["scene 1"]}
+KINDS = {"reading": reading, "printing": printing, "messages": messages, "bridge": bridge, "members": members, "actors": actors, "empty": lambda _: ["scene 1"]}
 
 
 def main():
