@@ -1,6 +1,7 @@
 //! The plain kernel.
 
-ghost use Rattle.std.specs.Prelude.{IfOk, ◌≡◌, IfErr, ◌<◌, ◌+◌, Ok, false};
+ghost use Rattle.std.specs.Prelude.{IfOk, ◌≡◌, IfErr, ◌<◌, ◌+◌, ◌==◌, Ok, false, nat_lt};
+ghost use Rattle.std.specs.List.{list_any};
 ghost use Rattle.kernel_types.specs.Bridge.{ns_connect, ns_push, ns_view};
 ghost use Rattle.kernel_types.specs.Bridging.{NsCauseHolds};
 ghost use Rattle.kernel_types.specs.Step.{step};
@@ -319,4 +320,21 @@ impl Core for PlainKernel {
     }
 
     ghost has_no_clients = { no_client };
+}
+
+// What the bridge must know before it calls, which no call of a core tells.
+#[cfg(test)]
+impl PlainKernel {
+    pub fn names_end(&self, end: ObjId) -> bool
+        ensures { result ≡ list_any (λ other. other == end.0) self.now.core.bridged }
+    {
+        crate::reach::is_in(self.core.bridged.as_slice(), end.0)
+    }
+
+    #[tactic(auto, unfolding(kernel_types::specs::Kernel::step_limit))]
+    pub fn may_step(&self) -> bool
+        ensures { result ≡ nat_lt self.now.made step_limit }
+    {
+        self.made < u32::MAX
+    }
 }

@@ -1,14 +1,14 @@
-//! A gate to the plain kernel of a scene.
+//! A gate to the program's kernel of a scene.
 ghost use Rattle.std.specs.Prelude.{◌≡◌, ◌+◌, length, IfOk, All};
 ghost use Rattle.kernel_gate.specs.Seats.{IsSeatOf};
 
+use crate::plain::{ProgramKernel, program_kernel};
 use kernel_gate::{Gate, GateCause, GateRefused, Seat, SplitRefused};
 use kernel_log::Receipt;
 use kernel_types::values::{
     ActorId, ActorStatus, Answer, Bytes, Call, ConnectFlags, Event, Items, NoMemory, PortFlags,
     Reply,
 };
-use plain_kernel::PlainKernel;
 use scene_reader::read_scene;
 use std::alloc::Global;
 use std::test::Fail;
@@ -31,7 +31,11 @@ fn svc(alloc: Global) -> Result<Bytes, NoMemory> {
 }
 
 // The seats, and one more.
-fn with_seat(gate: &Gate<PlainKernel>, seats: Vec<Seat>, seat: Seat) -> Result<Vec<Seat>, NoMemory>
+fn with_seat(
+    gate: &Gate<ProgramKernel>,
+    seats: Vec<Seat>,
+    seat: Seat,
+) -> Result<Vec<Seat>, NoMemory>
     requires seats { All (λ s. IsSeatOf gate.now s) seats.items }
     requires seat { IsSeatOf gate.now seat }
     ensures seats { IfOk result (λ v. All (λ s. IsSeatOf gate.now s) v.items) }
@@ -48,7 +52,7 @@ fn two_seats_share_the_kernel_of_a_scene(rt: HostRuntime) -> Result<(), Fail> {
     let Ok(scene) = read_scene(alloc, SCENE.as_bytes()) else {
         panic!(rt; "the scene is refused")
     };
-    let kernel = PlainKernel::new(alloc, &scene)?;
+    let kernel = program_kernel(alloc, &scene)?;
     let Ok((gate, mut first)) = Gate::new(alloc, kernel, 2) else {
         panic!(rt; "no memory")
     };

@@ -13,6 +13,8 @@ mod texts;
 #[cfg(test)]
 mod thread_tests;
 mod trusty;
+#[cfg(test)]
+mod worker_tests;
 
 use outside_io::{StdSink, StdSource};
 use runners::NoHook;
