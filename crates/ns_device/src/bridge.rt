@@ -1,6 +1,6 @@
 //! A core with the device of the bridge.
 
-ghost use Rattle.std.specs.Prelude.{◌≡◌, ◌≢◌, ◌≤◌, ◌<◌, ◌+◌, length, IfOk, IfErr, OnErr};
+ghost use Rattle.std.specs.Prelude.{◌≡◌, ◌≢◌, ◌≤◌, ◌<◌, ◌+◌, length, IfNone, IfOk, IfErr, OnErr};
 ghost use Rattle.std.specs.Option.{is_some};
 ghost use Rattle.kernel_types.specs.Bridging.{Idled, IsLater};
 ghost use Rattle.kernel_types.specs.Kernel.{Did, Refused, step_limit};
@@ -114,6 +114,7 @@ impl<C: Core + Drop> Bridge<C> {
         requires below { C.made self.old.core < step_limit }
         ensures done { IfOk result (λ told. Stepped told (C.state self.old.core) (C.state self.new.core) mem.old mem.new self.old.device self.new.device) }
         ensures made { C.made self.new.core ≤ C.made self.old.core + 1 }
+        ensures kept { IfOk result (λ told. IfNone told (C.made self.new.core ≡ C.made self.old.core)) }
         ensures state { OnErr result (C.state self.new.core ≡ C.state self.old.core) }
         ensures steps { OnErr result (C.made self.new.core ≡ C.made self.old.core) }
         ensures memory { OnErr result (mem.new ≡ mem.old) }

@@ -1,6 +1,6 @@
 //! One step of the device over a core.
 
-ghost use Rattle.std.specs.Prelude.{◌≡◌, ◌≤◌, ◌<◌, ◌+◌, length, IfOk, OnErr};
+ghost use Rattle.std.specs.Prelude.{◌≡◌, ◌≤◌, ◌<◌, ◌+◌, length, IfNone, IfOk, OnErr};
 ghost use Rattle.std.specs.List.{All};
 ghost use Rattle.std.specs.Option.{is_some, option_map};
 ghost use Rattle.virtqueue.specs.Bytes.{IsWithin, bytes_at};
@@ -36,6 +36,7 @@ fn take_chain<C: Core>(
     ensures done { IfOk result (λ told. Done (option_map left (take_chain (bare (C.state core.old).core mem.old device.old) chain.now (bytes_at chain.now.parts mem.old)))
         told (C.state core.old) (C.state core.new) mem.old mem.new device.old device.new) }
     ensures made { C.made core.new ≤ C.made core.old + 1 }
+    ensures kept { IfOk result (λ told. IfNone told (C.made core.new ≡ C.made core.old)) }
     ensures state { OnErr result (C.state core.new ≡ C.state core.old) }
     ensures steps { OnErr result (C.made core.new ≡ C.made core.old) }
     ensures memory { OnErr result (mem.new ≡ mem.old) }
@@ -64,6 +65,7 @@ fn take<C: Core>(
     ensures done { IfOk result (λ told. Done (option_map left (take_step (bare (C.state core.old).core mem.old device.old)))
         told (C.state core.old) (C.state core.new) mem.old mem.new device.old device.new) }
     ensures made { C.made core.new ≤ C.made core.old + 1 }
+    ensures kept { IfOk result (λ told. IfNone told (C.made core.new ≡ C.made core.old)) }
     ensures state { OnErr result (C.state core.new ≡ C.state core.old) }
     ensures steps { OnErr result (C.made core.new ≡ C.made core.old) }
     ensures memory { OnErr result (mem.new ≡ mem.old) }
@@ -88,6 +90,7 @@ pub fn step<C: Core>(
     requires below { C.made core.old < step_limit }
     ensures done { IfOk result (λ told. Stepped told (C.state core.old) (C.state core.new) mem.old mem.new device.old device.new) }
     ensures made { C.made core.new ≤ C.made core.old + 1 }
+    ensures kept { IfOk result (λ told. IfNone told (C.made core.new ≡ C.made core.old)) }
     ensures state { OnErr result (C.state core.new ≡ C.state core.old) }
     ensures steps { OnErr result (C.made core.new ≡ C.made core.old) }
     ensures memory { OnErr result (mem.new ≡ mem.old) }

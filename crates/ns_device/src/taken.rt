@@ -146,6 +146,7 @@ pub fn carry_out<C: Core>(
     ensures held { IfOk result (λ told. IfNone told ((C.state core.new ≡ C.state core.old) × (device.new ≡ device.old))) }
     ensures world { (C.state core.new).world ≡ (C.state core.old).world }
     ensures made { C.made core.new ≤ C.made core.old + 1 }
+    ensures kept { IfOk result (λ told. IfNone told (C.made core.new ≡ C.made core.old)) }
     ensures state { OnErr result (C.state core.new ≡ C.state core.old) }
     ensures steps { OnErr result (C.made core.new ≡ C.made core.old) }
     ensures queue { device.new.from_normal ≡ device.old.from_normal }
