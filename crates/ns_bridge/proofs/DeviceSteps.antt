@@ -18,7 +18,7 @@ use Rattle.kernel_laws.proofs.SameActors.{steps_keep}
 use Rattle.ns_device.specs.declared.told.Told.{Told}
 use Rattle.ns_device.specs.Steps.{Stepped as DeviceStepped}
 use Rattle.ns_device.specs.Worlds.{DeviceStepsAnywhere, DeviceWorksAnywhere, device_left, left_in, told_of}
-use Rattle.ns_bridge.specs.Parts.{Normal, state_of, world_of}
+use Rattle.ns_bridge.specs.Parts.{Normal, parts, state_of, world_of}
 use Rattle.ns_bridge.specs.Timely.{IsOnTime}
 use Rattle.ns_bridge.specs.Wholes.{IsWhole}
 use Rattle.ns_bridge.proofs.IdleSteps.{core_device}
@@ -65,32 +65,35 @@ device_did anywhere s t d e n after told made some below stepped driver clients 
       below = below;
     }
 
--- where it has no work there is no step, and where it has there is one
+-- where it has no work there is no step
 
 no_step : (o : Option DeviceStep) → is_some o ≡ false → option_map device_stepped o ≡ None
 no_step None work = refl
 no_step (Some done) work = absurd (cc)
 
-pub idle_device_refused : (s : State) (made : ℕ) → device_has_work s ≡ false → Refused event.Device s s made made (record { event = event.Device; cause = NotMovable None })
+no_work : (s : State) (clients : List ClientState) → s.world.clients ≡ clients → length clients ≡ 0 → device_has_work s ≡ false
+no_work s [] there none = core_device s there
+no_work s (client ∷ clients) there none = absurd (omega arith)
+
+pub lone_device_refused : (s : State) (made : ℕ) → length s.world.clients ≡ 0 → Refused event.Device s s made made (record { event = event.Device; cause = NotMovable None })
 unfolding step full_step device_has_work
-idle_device_refused s made work = record { event_is = refl; state_is = refl; made_is = refl; cause = (no_step (device_step s) work, refl) }
+lone_device_refused s made none = record { event_is = refl; state_is = refl; made_is = refl; cause = (no_step (device_step s) (no_work s s.world.clients refl none), refl) }
 
-working : (o : Option DeviceStep) → is_some o ≡ true → option_map device_stepped o ≡ None → ⊥
-working None work none = absurd (cc)
-working (Some done) work none = absurd (cc)
+normal_stays : (n after : Normal) → after.memory ≡ n.memory → after.driver ≡ n.driver → after.clients ≡ n.clients → after ≡ n
+normal_stays n after memory driver clients =
+    ap (λ x. parts x after.driver after.clients) memory ∙ (ap (λ x. parts n.memory x after.clients) driver ∙ ap (λ x. parts n.memory n.driver x) clients)
 
-pub device_works : DeviceStepsAnywhere → (s t : State) (d e : Device) (n after : Normal) → 0 < length n.clients → device_has_work (state_of s.core d n) ≡ true
-    → DeviceStepped None s t n.memory after.memory d e → after.driver ≡ n.driver → after.clients ≡ n.clients → ⊥
-unfolding full_step device_has_work
-device_works anywhere s t d e n after some work stepped driver clients =
-    working (device_step (state_of s.core d n)) work (device_is anywhere s t d e n after None some stepped driver clients)
-
-some_of : (s : State) (clients : List ClientState) → s.world.clients ≡ clients → device_has_work s ≡ true → 0 < length clients
-some_of s [] none work = let no : device_has_work s ≡ false = core_device s none in absurd (cc)
-some_of s (client ∷ clients) there work = omega arith
-
-pub some_client : (s : State) → device_has_work s ≡ true → 0 < length s.world.clients
-some_client s work = some_of s s.world.clients refl work
+pub idle_device_refused : DeviceStepsAnywhere → (s t : State) (d e : Device) (n after : Normal) (made : ℕ) → 0 < length n.clients
+    → DeviceStepped None s t n.memory after.memory d e → after.driver ≡ n.driver → after.clients ≡ n.clients
+    → Refused event.Device (state_of s.core d n) (state_of t.core e after) made made (record { event = event.Device; cause = NotMovable None })
+unfolding step
+idle_device_refused anywhere s t d e n after made some stepped driver clients = record {
+  event_is = refl;
+  state_is = ap (λ (x : State). state_of x.core e after) stepped.stays.0
+      ∙ (ap (λ x. state_of s.core x after) stepped.stays.2 ∙ ap (λ x. state_of s.core d x) (normal_stays n after stepped.stays.1 driver clients));
+  made_is = refl;
+  cause = (device_is anywhere s t d e n after None some stepped driver clients, refl);
+}
 
 -- what it tells is a path at most
 

@@ -260,7 +260,7 @@ impl<C: Core + Drop> Kernel<C> {
         }
     }
 
-    /// A step of the device, which is asked for one only where it has work.
+    /// A step of the device. There is none without clients, nor where the device finds no work.
     #[tactic(auto, unfolding(kernel_types::specs::Kernel::step_limit))]
     fn step_device(&mut self) -> Result<Entry, StepRefused>
         requires below { self.old.made < step_limit }
@@ -269,7 +269,7 @@ impl<C: Core + Drop> Kernel<C> {
         ensures fits { IfOk result (λ entry. FitsIn (room_of self.old.state kind.Device) entry.answer) }
     {
         device_steps_anywhere();
-        if !self.has_work() {
+        if self.normal.len() == 0 {
             return Err(refuses(Event::Device, StepCause::NotMovable(None)));
         }
         match self.normal.step_device(&mut self.bridge) {

@@ -406,6 +406,7 @@ impl NormalWorld {
         ensures driver { self.new.driver ≡ self.old.driver }
         ensures clients { self.new.clients ≡ self.old.clients }
         ensures made { C.made bridge.new.core ≤ C.made bridge.old.core + 1 }
+        ensures kept { IfOk result (λ told. IfNone told (C.made bridge.new.core ≡ C.made bridge.old.core)) }
         ensures err_state { OnErr result (C.state bridge.new.core ≡ C.state bridge.old.core) }
         ensures err_steps { OnErr result (C.made bridge.new.core ≡ C.made bridge.old.core) }
         ensures err_memory { OnErr result (self.new.memory ≡ self.old.memory) }

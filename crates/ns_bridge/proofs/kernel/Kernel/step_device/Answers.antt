@@ -1,13 +1,13 @@
-use Rattle.std.proofs.Common.{◌≡◌, true, false}
-use Rattle.kernel_types.specs.Step.{device_has_work}
+use Rattle.std.proofs.Common.{◌≡◌, ◌<◌, length, arith}
 use Rattle.ns_bridge.specs.Parts.{state_of}
-use Rattle.ns_bridge.proofs.DeviceSteps.{device_did, device_fits, device_on_time, device_whole, device_works, idle_device_refused, some_client}
+use Rattle.ns_bridge.proofs.DeviceSteps.{device_did, device_fits, device_on_time, device_whole, idle_device_refused, lone_device_refused}
 use Rattle.ns_bridge.proofs.kernel.Kernel.step_device.Goals as goal
 
-pub returns-then-not-has_work-clause-refused : goal.returns-then-not-has_work-clause-refused
-returns-then-not-has_work-clause-refused g c =
-    let work : device_has_work c.args.self.now.state ≡ false = cc (c.has_work.ensures, c.if-not-has_work.true) in
-    rw (c.refuses.ensures) (idle_device_refused c.args.self.now.state c.args.self.now.made work)
+pub returns-then-len-eq0-clause-refused : goal.returns-then-len-eq0-clause-refused
+returns-then-len-eq0-clause-refused g c =
+    let core = (g.C.IpcKernel.state c.self.inside.bridge.core).core in
+    let none : length c.self.inside.normal.clients ≡ 0 = omega (arith, c.len.ensures, c.if-len-eq0.true) in
+    rw (c.refuses.ensures, ← c.self.view_is) (lone_device_refused (state_of core c.self.inside.bridge.device c.self.inside.normal) c.self.inside.made none)
 
 pub invariant_of-self : goal.invariant_of-self
 invariant_of-self g c =
@@ -18,8 +18,7 @@ invariant_of-self g c =
     let n = c.self.inside.normal in
     let after = c.step_device.new.self in
     let anywhere = c.device_steps_anywhere.ensures in
-    let work : device_has_work c.args.self.now.state ≡ true = cc (c.has_work.ensures, c.if-not-has_work.false) in
-    let some = some_client (state_of s.core d n) (rw (← c.self.view_is) at work) in
+    let some : 0 < length n.clients = omega (arith, c.len.ensures, c.if-len-eq0.false) in
     let stepped = rw (c.in-Ok-Some.field-0-is) at c.in-Ok-Some.ensures.done in
     let driver = c.in-Ok-Some.ensures.driver in
     let clients = c.in-Ok-Some.ensures.clients in (
@@ -33,8 +32,7 @@ returns-in-Ok-Some-clause-done g c =
     let t = g.C.IpcKernel.state c.step_device.new.bridge.core in
     let d = c.self.inside.bridge.device in
     let n = c.self.inside.normal in
-    let work : device_has_work c.args.self.now.state ≡ true = cc (c.has_work.ensures, c.if-not-has_work.false) in
-    let some = some_client (state_of s.core d n) (rw (← c.self.view_is) at work) in
+    let some : 0 < length n.clients = omega (arith, c.len.ensures, c.if-len-eq0.false) in
     let stepped = rw (c.in-Ok-Some.field-0-is) at c.in-Ok-Some.ensures.done in
     let below = rw (← c.self.view_is) at c.requires.below in
     rw (← c.self.view_is)
@@ -47,22 +45,9 @@ returns-in-Ok-Some-clause-fits g c =
     let t = g.C.IpcKernel.state c.step_device.new.bridge.core in
     let d = c.self.inside.bridge.device in
     let n = c.self.inside.normal in
-    let work : device_has_work c.args.self.now.state ≡ true = cc (c.has_work.ensures, c.if-not-has_work.false) in
-    let some = some_client (state_of s.core d n) (rw (← c.self.view_is) at work) in
+    let some : 0 < length n.clients = omega (arith, c.len.ensures, c.if-len-eq0.false) in
     let stepped = rw (c.in-Ok-Some.field-0-is) at c.in-Ok-Some.ensures.done in
     device_fits c.device_steps_anywhere.ensures s t d c.step_device.new.bridge.device n c.step_device.new.self c.in-Ok-Some.told some stepped c.in-Ok-Some.ensures.driver c.in-Ok-Some.ensures.clients
-
-pub invariant_of-self-in-Ok-None : goal.invariant_of-self-in-Ok-None
-invariant_of-self-in-Ok-None g c =
-    let s = g.C.IpcKernel.state c.self.inside.bridge.core in
-    let t = g.C.IpcKernel.state c.step_device.new.bridge.core in
-    let d = c.self.inside.bridge.device in
-    let n = c.self.inside.normal in
-    let work : device_has_work c.args.self.now.state ≡ true = cc (c.has_work.ensures, c.if-not-has_work.false) in
-    let works = rw (← c.self.view_is) at work in
-    let some = some_client (state_of s.core d n) works in
-    let stepped = rw (c.in-Ok-None.field-0-is) at c.in-Ok-None.ensures.done in
-    absurd (device_works c.device_steps_anywhere.ensures s t d c.step_device.new.bridge.device n c.step_device.new.self some works stepped c.in-Ok-None.ensures.driver c.in-Ok-None.ensures.clients)
 
 pub returns-in-Ok-None-clause-refused : goal.returns-in-Ok-None-clause-refused
 returns-in-Ok-None-clause-refused g c =
@@ -70,8 +55,8 @@ returns-in-Ok-None-clause-refused g c =
     let t = g.C.IpcKernel.state c.step_device.new.bridge.core in
     let d = c.self.inside.bridge.device in
     let n = c.self.inside.normal in
-    let work : device_has_work c.args.self.now.state ≡ true = cc (c.has_work.ensures, c.if-not-has_work.false) in
-    let works = rw (← c.self.view_is) at work in
-    let some = some_client (state_of s.core d n) works in
+    let some : 0 < length n.clients = omega (arith, c.len.ensures, c.if-len-eq0.false) in
     let stepped = rw (c.in-Ok-None.field-0-is) at c.in-Ok-None.ensures.done in
-    absurd (device_works c.device_steps_anywhere.ensures s t d c.step_device.new.bridge.device n c.step_device.new.self some works stepped c.in-Ok-None.ensures.driver c.in-Ok-None.ensures.clients)
+    rw (c.refuses.ensures, ← c.self.view_is)
+    (idle_device_refused c.device_steps_anywhere.ensures s t d c.step_device.new.bridge.device n c.step_device.new.self c.self.inside.made some stepped c.in-Ok-None.ensures.driver
+    c.in-Ok-None.ensures.clients)
