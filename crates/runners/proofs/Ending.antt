@@ -15,7 +15,7 @@ use Rattle.kernel_types.specs.Step.{Stepped, step}
 use Rattle.kernel_types.specs.Turns.{Run, Outturn, ran, refused, grown, event_of, run_event, run_turn, run_from, run_by, replay_of, whole_or_refused, serial_from, serial_turns, next_turn, last_after, history_limit}
 use Rattle.kernel_types.specs.Whole.{FollowsScripts}
 use Rattle.kernel_log.specs.Logs.{Log, state_of}
-use Rattle.runners.specs.Runs.{Carries, Told, origin_of, state_told, run_told, run_logged, RanSerially, IsRunBy, IsWholeRun, IsCutShort, IsReplay, TookTurn}
+use Rattle.runners.specs.Runs.{Carries, IsRun, Told, origin_of, state_told, run_told, run_logged, RanSerially, IsRunBy, IsWholeRun, IsCutShort, IsReplay, TookTurn}
 use Rattle.runners.specs.declared.steps.Taken.{Taken}
 use Rattle.runners.specs.declared.steps.Taken.TheVariants as taken
 
@@ -250,3 +250,6 @@ told_carries law scene first told log lawful first_is told_is entries_are legal 
     let by_scripts : FollowsScripts (scripts_of scene) log.journal.entries =
     subst (λ (es : List Entry). FollowsScripts (scripts_of scene) es) (sym entries_are) (subst (λ (o : Origin). FollowsScripts o.scripts told.history) origin follows) in
     law scene log.journal.entries lawful honest here by_scripts
+
+pub run_carries : CarriedInOrder → (scene : SceneValue) (log : Log) → IsLawfulScene scene → IsRun (origin_of scene) log → Carries scene log
+run_carries law scene log lawful run honest = law scene log.journal.entries lawful honest run.legal run.follows

@@ -24,6 +24,7 @@ pub enum Round {
     Asks { start: u32 },
     /// There is nothing to do.
     Sleeps,
+    /// Memory was wanted, or the turn was not lawful: see `RunRefused::NoMemory`.
     NoMemory,
 }
 
@@ -72,7 +73,7 @@ fn take<K: IpcKernel + Drop>(shared: &mut Shared<K>, actor: u32, turn: Turn) -> 
         Taken::Stepped => Round::Stepped {
             answered: matches!(turn, Turn::Actor(_)) && !shared.waits(actor),
         },
-        // As in the serial order, by the same law.
+        // As in the serial order, by the same law and under the same premise.
         Taken::Unlawful => Round::NoMemory,
     }
 }

@@ -5,14 +5,16 @@ ghost use Rattle.std.specs.Thread.{IsSend, IsSync};
 ghost use Rattle.kernel_types.specs.Opening.{opening};
 ghost use Rattle.turnstile.specs.Names.{first_of};
 ghost use Rattle.runners.specs.Places.{most_actors};
-ghost use Rattle.runners.specs.Runs.{IsRunToEnd, IsUnfinished, origin_of};
+ghost use Rattle.runners.specs.Runs.{Carries, StoppedCarries, IsRunToEnd, IsUnfinished, origin_of};
 ghost use Rattle.runners.specs.Workers.{Rests, Serves};
 
 use crate::bell::Bell;
 use crate::by_turns::{Worker, work_by_turns};
+use crate::scripts::is_lawful;
 use crate::serial_order::{HISTORY_LIMIT, RunRefused};
 use crate::shared::Shared;
 use crate::workers::{Hook, Progress, work};
+use carry_laws::frames_are_carried_in_order;
 use kernel_log::Logged;
 use kernel_types::IpcKernel;
 use kernel_types::values::{ActorId, NoMemory, Recorded, Scene};
@@ -179,12 +181,20 @@ fn run_all<R: Threads + Wait + Sync, K: IpcKernel + Drop + Send, H: Hook + Sync>
     )
 }
 
-// The run that the workers have left: whole, or as long as a run may be; or memory was wanted.
+// The run of the scene that the workers have left: whole, or as long as a run may be; or they left it before either.
 #[tactic(auto, unfolding(kernel_types::specs::Turns::history_limit))]
-fn finished<K: IpcKernel + Drop>(shared: Shared<K>) -> Result<Logged<K>, RunRefused<K>>
-    ensures whole { IfOk result (λ logged. IsRunToEnd shared.origin logged) }
-    ensures refused { IfErr result (λ refused. IsUnfinished shared.origin refused) }
+fn finished<K: IpcKernel + Drop>(
+    shared: Shared<K>,
+    scene: &Scene,
+) -> Result<Logged<K>, RunRefused<K>>
+    requires { shared.origin ≡ origin_of scene.now }
+    ensures whole { IfOk result (λ logged. IsRunToEnd (origin_of scene.now) logged) }
+    ensures refused { IfErr result (λ refused. IsUnfinished (origin_of scene.now) refused) }
+    ensures carried { IfOk result (λ logged. Carries scene.now logged) }
+    ensures cut_carried { IfErr result (λ refused. StoppedCarries scene.now refused) }
 {
+    frames_are_carried_in_order();
+    is_lawful(scene);
     shared.legal();
     let over = shared.is_over();
     let full = shared.recorded() >= HISTORY_LIMIT;
@@ -212,6 +222,8 @@ pub fn threads<R: Threads + Wait + Sync, K: IpcKernel + Drop + Send, H: Hook + S
     requires made { K.made kernel ≡ 0 }
     ensures whole { IfOk result (λ logged. IsRunToEnd (origin_of scene.now) logged) }
     ensures refused { IfErr result (λ refused. IsUnfinished (origin_of scene.now) refused) }
+    ensures carried { IfOk result (λ logged. Carries scene.now logged) }
+    ensures cut_carried { IfErr result (λ refused. StoppedCarries scene.now refused) }
 {
     let shared = Shared::new(alloc, kernel, scene)?;
     let bell = shared.bell().again()?;
@@ -223,7 +235,7 @@ pub fn threads<R: Threads + Wait + Sync, K: IpcKernel + Drop + Send, H: Hook + S
     let workers = run_all(rt, alloc, &turnstile, workers, &bell, hook)?;
     let passes = passes_of(alloc, &turnstile, pass, workers)?;
     match turnstile.close(alloc, passes) {
-        Ok((shared, _pass)) => finished(shared),
+        Ok((shared, _pass)) => finished(shared, scene),
         Err(_) => Err(RunRefused::NoMemory),
     }
 }

@@ -25,7 +25,10 @@ pub const HISTORY_LIMIT: u64 = 4_194_304;
 pub enum RunRefused<K: IpcKernel + Drop> {
     /// It is not whole after 4,194,304 entries. The kernel comes back with them.
     TooLong(Logged<K>),
-    /// Memory was wanted.
+    /// Memory was wanted; or the turn that was due was not lawful. The latter does not come where clients write memory and rings
+    /// through the driver alone, by a law of `run_laws`, a crate that stands above this one; a client's call that writes them
+    /// itself is not lawful, as no kernel has a body for it yet. Or an actor's place at its script did not fit its status, which
+    /// was never seen, and is not proved impossible.
     NoMemory,
 }
 
@@ -111,8 +114,8 @@ fn run_serially<K: IpcKernel + Drop>(shared: &mut Shared<K>) -> Result<(), NoMem
         };
         match shared.turn(turn)? {
             Taken::Stepped => last = last_after(last, turn),
-            // A turn of the serial order is lawful, by a law of runs that stands above this crate; the
-            // answer is the free one.
+            // Where clients write memory and rings through the driver alone, a turn of the serial order is
+            // lawful, by a law of runs that stands above this crate; the answer is the free one.
             Taken::Unlawful => return Err(NoMemory),
         }
     }

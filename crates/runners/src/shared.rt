@@ -166,7 +166,8 @@ impl<K: IpcKernel + Drop> Shared<K> {
     }
 
     /// Takes one turn: the actor's next event, a step of the device, or Idle. Refused for want of memory,
-    /// all stands as before.
+    /// or where the actor's place at its script does not fit its status (never seen, and not proved
+    /// impossible), all stands as before.
     pub fn turn(&mut self, turn: Turn) -> Result<Taken, NoMemory>
         requires { length self.old.history < history_limit }
         ensures origin { self.new.origin ≡ self.old.origin }
