@@ -15,7 +15,7 @@ use Rattle.outside_io.specs.Faults.{Rose}
 use Rattle.outside_io.specs.Reading.{ReadsWhole}
 use Rattle.report_text.specs.Forms.{report}
 use Rattle.report_text.specs.declared.form.Form.{Form}
-use Rattle.runners.specs.Runs.{IsRunToEnd, IsRunToLimit, origin_of}
+use Rattle.runners.specs.Runs.{Carries, IsRunToEnd, IsRunToLimit, origin_of}
 use Rattle.scene_reader.specs.Whole.{scene_of}
 use Rattle.scene_reader.specs.declared.fault.SceneFault.{SceneFault}
 use Rattle.trusty_main.specs.Answers.{AppendsSome, AppendsSomeDue, GetsDue, HasPlan, HasScene, IsEndless, IsWholeRun, Tells, Told}
@@ -163,7 +163,7 @@ done_of form (Ok scene) due old new is_due told =
     due_done scene form entries (is_at_end (state_after (opening scene) entries)) refl due is_due.2 told.status_is in
     record {
       entries = entries;
-      history = is_history scene entries run.legal (record { follows = run.follows; ended = both.0 });
+      history = is_history scene entries run.legal (record { follows = run.follows; ended = both.0 }) run.crosses;
       appended = subst (λ text. Appends old new text) both.1 told.appended;
     }
 
@@ -312,26 +312,26 @@ fault_told command input fault old new before now result is told =
 pub untold : (holds : Due → Type 0) (old : Option (List ℕ)) (before : ℕ) → TellsSome holds old old before before status.NoMemory
 untold holds old before = inr (refl, Keeps-refl old, refl)
 
-pub whole_told : (scene : SceneValue) (form : Form) (log : Log) (old new : Option (List ℕ)) (before now : ℕ) (result : Status) → IsRunToEnd (origin_of scene) log
+pub whole_told : (scene : SceneValue) (form : Form) (log : Log) (old new : Option (List ℕ)) (before now : ℕ) (result : Status) → IsRunToEnd (origin_of scene) log → Carries scene log
     → Tells (record { status = status.Done; text = report scene log.journal.entries form }) old new before now result
     → TellsSome (IsDueOfScene (command.Run form) (Ok scene)) old new before now result
-whole_told scene form log old new before now result run told =
+whole_told scene form log old new before now result run carries told =
     let goes_on : is_at_end (state_after (opening scene) log.journal.entries) ≡ false → length log.journal.entries ≡ history_limit =
     λ unfinished. let ended : is_at_end (state_after (opening scene) log.journal.entries) ≡ true = run.whole.ended in absurd (cc) in
     inl (
       record { status = status.Done; text = report scene log.journal.entries form },
-      (log.journal.entries, record { legal = run.run.legal; follows = run.run.follows; long = goes_on }, rw run.whole.ended refl),
+      (log.journal.entries, record { legal = run.run.legal; follows = run.run.follows; crosses = carries; long = goes_on }, rw run.whole.ended refl),
       told,
     )
 
-pub limit_told : (scene : SceneValue) (form : Form) (log : Log) (old new : Option (List ℕ)) (before now : ℕ) (result : Status) → IsRunToLimit (origin_of scene) log
+pub limit_told : (scene : SceneValue) (form : Form) (log : Log) (old new : Option (List ℕ)) (before now : ℕ) (result : Status) → IsRunToLimit (origin_of scene) log → Carries scene log
     → Tells (record { status = status.RunTooLong; text = too_long_text }) old new before now result
     → TellsSome (IsDueOfScene (command.Run form) (Ok scene)) old new before now result
-limit_told scene form log old new before now result run told =
+limit_told scene form log old new before now result run carries told =
     let goes_on : is_at_end (state_after (opening scene) log.journal.entries) ≡ false =
     subst (λ s. is_at_end (state_after s log.journal.entries) ≡ false) run.run.state_is run.unfinished in
     inl (
       record { status = status.RunTooLong; text = too_long_text },
-      (log.journal.entries, record { legal = run.run.legal; follows = run.run.follows; long = λ _. run.full }, rw goes_on refl),
+      (log.journal.entries, record { legal = run.run.legal; follows = run.run.follows; crosses = carries; long = λ _. run.full }, rw goes_on refl),
       told,
     )

@@ -11,7 +11,7 @@ use Rattle.kernel_types.specs.Opening.{opening}
 use Rattle.kernel_types.specs.Whole.{IsWholeHistory}
 use Rattle.app_laws.specs.Ended.{EndedNameNone}
 use Rattle.app_laws.proofs.Histories.{histories_none}
-use Rattle.trusty_main.specs.Answers.{CountsNames, IsSequentialHistory}
+use Rattle.trusty_main.specs.Answers.{CountsNames, Crosses, IsSequentialHistory}
 
 given_if : (there : Bool) (n count : ℕ) → (if there then Some n else None) ≡ Some count → count ≡ n
 given_if true n count is = cc
@@ -24,10 +24,12 @@ ended_after : (scene : SceneValue) (entries : List Entry) → Legal (opening sce
     → EndedNameNone (state_after (opening scene) before)
 ended_after scene entries legal before after is = histories_none scene before after (subst (λ (es : List Entry). Legal (opening scene) es) is legal)
 
-pub is_history : (scene : SceneValue) (entries : List Entry) → Legal (opening scene) entries → IsWholeHistory scene entries → IsSequentialHistory scene entries
-is_history scene entries legal whole = record {
+pub is_history : (scene : SceneValue) (entries : List Entry) → Legal (opening scene) entries → IsWholeHistory scene entries → Crosses scene entries
+    → IsSequentialHistory scene entries
+is_history scene entries legal whole crosses = record {
   legal = legal;
   whole = whole;
   counted = λ before after is. counts_names (state_after (opening scene) before);
   ended = ended_after scene entries legal;
+  crosses = crosses;
 }

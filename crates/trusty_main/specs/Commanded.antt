@@ -15,7 +15,7 @@ use Rattle.report_text.specs.Forms.{report}
 use Rattle.report_text.specs.declared.form.Form.{Form}
 use Rattle.scene_reader.specs.Whole.{scene_of}
 use Rattle.scene_reader.specs.declared.fault.SceneFault.{SceneFault}
-use Rattle.trusty_main.specs.Answers.{AppendsSome, IsSequentialHistory, Tells, Told}
+use Rattle.trusty_main.specs.Answers.{AppendsSome, Crosses, IsSequentialHistory, Tells, Told}
 use Rattle.trusty_main.specs.Due.{Due, due_of_run}
 use Rattle.trusty_main.specs.Plans.{outturn_of}
 use Rattle.trusty_main.specs.Texts.{fault_text, too_long_text, usage_text}
@@ -28,6 +28,7 @@ use Rattle.trusty_main.specs.declared.status.Status.TheVariants as status
 pub record IsRunByThreads (scene : SceneValue) (entries : List Entry) : Type 0 where
   pub legal : Legal (opening scene) entries
   pub follows : FollowsScripts (scripts_of scene) entries
+  pub crosses : Crosses scene entries
   pub long : is_at_end (state_after (opening scene) entries) ≡ false → length entries ≡ history_limit
 
 abbrev pub due_of_history : SceneValue → Form → List Entry → Due

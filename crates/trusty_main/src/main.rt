@@ -1,8 +1,6 @@
 //! `trusty`: reads a scene from standard input, runs it, and writes a report to standard output.
 #![tactic(auto)]
 
-#[cfg(test)]
-mod gate_tests;
 mod plain;
 pub mod plan;
 mod status;

@@ -17,26 +17,13 @@ use crate::status::Status;
 use crate::telling::{tell_fault, tell_report, tell_too_long, tell_turn, tell_usage};
 use kernel_types::IpcKernel;
 use kernel_types::values::{NoMemory, Scene};
-use ns_bridge::Kernel;
 use outside_io::{INPUT_LIMIT, ReadRefused, Sink, Source, read_all};
-use plain_kernel::PlainKernel;
+use program_kernel::kernel_of;
 use report_text::Form;
 use runners::{ReplayRefused, RunRefused, replay, serial};
 use scene_laws::turns_take_bytes;
 use scene_reader::{SceneRefused, read_scene};
 use std::alloc::Global;
-
-/// The program's kernel.
-pub type ProgramKernel = Kernel<PlainKernel>;
-
-/// The program's kernel in the state in which the scene begins.
-pub fn program_kernel(alloc: Global, scene: &Scene) -> Result<ProgramKernel, NoMemory>
-    ensures state { IfOk result (λ kernel. kernel.state ≡ opening scene.now) }
-    ensures made { IfOk result (λ kernel. kernel.made ≡ 0) }
-{
-    let core = PlainKernel::new(alloc, scene)?;
-    Kernel::new(alloc, core, scene)
-}
 
 /// Runs the command that the words give: reads a scene to the source's end, runs it, and writes the
 /// report. `run` takes threads, and is no command here.
@@ -109,7 +96,7 @@ fn run<K: Sink>(alloc: Global, plan: Plan, scene: &Scene, sink: &mut K) -> Statu
     ensures done { result ≡ Status.Done → IsWholeRun plan.order scene.now }
     ensures endless { result ≡ Status.RunTooLong → IsEndless plan.order scene.now }
 {
-    let Ok(kernel) = program_kernel(alloc, scene) else {
+    let Ok(kernel) = kernel_of(alloc, scene) else {
         return Status::NoMemory;
     };
     match plan.order {

@@ -10,12 +10,13 @@ ghost use Rattle.trusty_main.specs.Answers.{HasScene};
 ghost use Rattle.trusty_main.specs.Commanded.{AppendsSomeOf, GetsDueOf, HasCommand, IsDue, IsDueOfScene, IsPlain, IsReported, TellsSome, ToldOf, form_of};
 ghost use Rattle.trusty_main.specs.Texts.{usage_text};
 
-use crate::plain::{program_kernel, trusty_plain};
+use crate::plain::trusty_plain;
 use crate::status::Status;
 use crate::telling::{tell_fault, tell_report, tell_too_long};
 use command_line::{Command, command_of};
 use kernel_types::values::Scene;
 use outside_io::{INPUT_LIMIT, ReadRefused, Sink, Source, read_all};
+use program_kernel::kernel_of;
 use report_text::Form;
 use runners::{Hook, RunRefused, threads};
 use scene_reader::{SceneRefused, read_scene};
@@ -148,7 +149,7 @@ fn run_scene<R: Threads + Wait + Sync, K: Sink, H: Hook + Sync>(
 ) -> Status
     ensures tells { TellsSome (IsDueOfScene (Command.Run form) (Ok scene.now)) (K.written sink.old) (K.written sink.new) (K.faults sink.old) (K.faults sink.new) result }
 {
-    let Ok(kernel) = program_kernel(alloc, scene) else {
+    let Ok(kernel) = kernel_of(alloc, scene) else {
         return Status::NoMemory;
     };
     match threads(rt, alloc, kernel, scene, hook) {
