@@ -5,6 +5,8 @@ ghost use Rattle.std.specs.Prelude.{◌≡◌, IfOk};
 ghost use Rattle.kernel_types.specs.Opening.{opening};
 
 #[cfg(test)]
+mod bridge_tests;
+#[cfg(test)]
 mod gate_tests;
 #[cfg(test)]
 mod worker_tests;
