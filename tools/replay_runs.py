@@ -1,7 +1,7 @@
 #!/usr/bin/env python3
 """Runs scenes on threads and replays what came.
 
-  replay_runs.py [--program PATH] [--times N] [FOLDER..]        examples/ and tests/, where no folder is given
+  replay_runs.py [--program PATH] [--times N] [--room MIB] [FOLDER..]        examples/ and tests/, where no folder is given
 
 Each scene without faults is run N times (4) by `run`. The turns of the history that it prints are then listed under the same
 scene and taken by `replay`, which must print the same bytes. A run that does not end within 20 seconds is told as one that
@@ -17,8 +17,12 @@ PROGRAM = os.path.join(HERE, "..", "crates", "trusty_main", "out", "trusty_main"
 FOLDERS = [os.path.join(HERE, "..", name) for name in ("examples", "tests")]
 
 
-def printed(program, command, scene):
-    said = subprocess.run([program, command], input=scene, stdout=subprocess.PIPE, timeout=20)
+def printed(program, command, scene, room=None):
+    def bounded():
+        if room is not None:
+            resource.setrlimit(resource.RLIMIT_AS, (room << 20, room << 20))
+
+    said = subprocess.run([program, command], input=scene, stdout=subprocess.PIPE, timeout=20, preexec_fn=bounded)
     return said.returncode, said.stdout
 
 
@@ -32,27 +36,33 @@ def without_turns(scene):
 
 
 def actors(scene):
-    """The numbers of the threads by their names in reports."""
-    numbers, app, threads = {}, None, 0
-    for line in scene.split(b"\n") + [b"app"]:
+    """The numbers of the actors by their names in reports: the threads, application by application, then the clients."""
+    threads, clients, app = [], [], None
+    for line in scene.split(b"\n"):
         words = line.split()
-        if words[:1] == [b"thread"]:
-            numbers[app + b".%d" % threads] = len(numbers)
-            threads += 1
-        elif words[:1] == [b"app"]:
-            if app is not None and threads == 0:
-                numbers[app + b".0"] = len(numbers)
-            app, threads = words[1] if len(words) > 1 else None, 0
-    return numbers
+        if words[:1] == [b"app"]:
+            app, count = words[1], 0
+            threads.append(app + b".0")
+        elif words[:1] == [b"thread"]:
+            if count > 0:
+                threads.append(app + b".%d" % count)
+            count += 1
+        elif words[:1] == [b"client"]:
+            clients.append(words[1])
+    return {name: number for number, name in enumerate(threads + clients)}
 
 
 def turns(history, numbers):
+    """The turns of a printed history. A client may be named as the device or idle is: their steps have no call."""
     listed = []
     for line in history.split(b"\n")[1:]:
         words = line.split(b" ")
         if words[0] == b"end":
             return listed
-        listed.append({b"idle": b"I", b"device": b"D"}.get(words[1]) or b"%d" % numbers[words[1]])
+        if words[2] == b"->":
+            listed.append({b"idle": b"I", b"device": b"D"}[words[1]])
+        else:
+            listed.append(b"%d" % numbers[words[1]])
     return listed
 
 
@@ -60,6 +70,7 @@ def main():
     parser = argparse.ArgumentParser(description=__doc__, formatter_class=argparse.RawDescriptionHelpFormatter)
     parser.add_argument("--program", default=PROGRAM)
     parser.add_argument("--times", type=int, default=4)
+    parser.add_argument("--room", type=int, metavar="MIB")
     parser.add_argument("folders", nargs="*", default=FOLDERS)
     words = parser.parse_args()
     runs = otherwise = hang = unlike = 0
@@ -73,7 +84,7 @@ def main():
         for _ in range(words.times):
             runs += 1
             try:
-                status, history = printed(words.program, "run", scene)
+                status, history = printed(words.program, "run", scene, words.room)
             except subprocess.TimeoutExpired:
                 hang += 1
                 print(f"{path}: hangs")
