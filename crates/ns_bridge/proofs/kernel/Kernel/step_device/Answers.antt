@@ -57,6 +57,6 @@ returns-in-Ok-None-clause-refused g c =
     let n = c.self.inside.normal in
     let some : 0 < length n.clients = omega (arith, c.len.ensures, c.if-len-eq0.false) in
     let stepped = rw (c.in-Ok-None.field-0-is) at c.in-Ok-None.ensures.done in
-    rw (c.refuses.ensures, ← c.self.view_is)
+    rw (c.refuses-in-Ok-None.ensures, ← c.self.view_is)
     (idle_device_refused c.device_steps_anywhere.ensures s t d c.step_device.new.bridge.device n c.step_device.new.self c.self.inside.made some stepped c.in-Ok-None.ensures.driver
     c.in-Ok-None.ensures.clients)
