@@ -18,11 +18,10 @@ FOLDERS = [os.path.join(HERE, "..", name) for name in ("examples", "tests")]
 
 
 def printed(program, command, scene, room=None):
-    def bounded():
-        if room is not None:
-            resource.setrlimit(resource.RLIMIT_AS, (room << 20, room << 20))
-
-    said = subprocess.run([program, command], input=scene, stdout=subprocess.PIPE, timeout=20, preexec_fn=bounded)
+    words = [program, command]
+    if room is not None:
+        words = ["sh", "-c", 'ulimit -v "$0" && exec "$@"', str(room * 1024)] + words
+    said = subprocess.run(words, input=scene, stdout=subprocess.PIPE, timeout=20)
     return said.returncode, said.stdout
 
 
