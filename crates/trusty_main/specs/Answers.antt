@@ -1,5 +1,5 @@
 -- What each status of the program says.
-use Rattle.std.specs.Prelude.{◌≡◌, ◌≢◌, ◌≤◌, ℕ, List, ◌++◌, false, length, Option, Some, None, Result, Ok, Err, IsTrue, ⊤}
+use Rattle.std.specs.Prelude.{◌≡◌, ◌≢◌, ◌≤◌, ◌<◌, ℕ, List, ◌++◌, false, length, Option, Some, None, Result, Ok, Err, IsTrue, ⊤}
 use Rattle.std.specs.Io.KnownBytes.{Appends}
 use Rattle.std.specs.List.{list_all}
 use Rattle.app_laws.specs.Ended.{EndedNameNone}
@@ -27,18 +27,23 @@ use Rattle.trusty_main.specs.declared.status.Status.TheVariants as status
 abbrev pub CountsNames : State → Type 0
 CountsNames s = (object count : ℕ) → names_at s object ≡ Some count → count ≡ names_of (naming s.core) object
 
+-- no object outlives its names: each that is there is named by some entry
+abbrev pub IsNamedWhileThere : State → Type 0
+IsNamedWhileThere s = (object count : ℕ) → names_at s object ≡ Some count → 0 < count
+
 -- Where clients write memory and rings through the driver alone, what came over the bridge is what was sent, byte for byte and
 -- in order, as far as it came; and the device is not broken.
 abbrev pub Crosses : SceneValue → List Entry → Type 0
 Crosses scene entries = IsTrue (list_all is_honest scene.clients) → IsCarried (opening scene) entries
 
 -- A legal history of the sequential kernel from the scene's opening state, in which each actor's calls are its script's, each
--- once, in its order, to its end; and after every step of it each object's count is the number of entries that name it, and an
--- ended application names none. Frames cross in order.
+-- once, in its order, to its end; and after every step of it each object's count is the number of entries that name it, and each
+-- that is there is named, and an ended application names none. Frames cross in order.
 pub record IsSequentialHistory (scene : SceneValue) (entries : List Entry) : Type 0 where
   pub legal : Legal (opening scene) entries
   pub whole : IsWholeHistory scene entries
   pub counted : (before after : List Entry) → entries ≡ before ++ after → CountsNames (state_after (opening scene) before)
+  pub named : (before after : List Entry) → entries ≡ before ++ after → IsNamedWhileThere (state_after (opening scene) before)
   pub ended : (before after : List Entry) → entries ≡ before ++ after → EndedNameNone (state_after (opening scene) before)
   pub crosses : Crosses scene entries
 
