@@ -22,53 +22,53 @@ use Rattle.kernel_types.specs.Reach.{Among, Reached, is_in, is_marked_holder, re
 use Rattle.kernel_types.specs.Reach.Reached.{by_holder, by_root}
 use Rattle.kernel_types.specs.Sweep.{cut_end, kept, pruned, pruned_port, reached, sweep}
 
--- the name is of a root or of a marked holder
-abbrev pub Passes : List ℕ → Name → Bool
-Passes marked name = is_marked_holder marked name.holder
+-- the name stays: it is of a root or of a marked holder
+abbrev pub is_left : List ℕ → Name → Bool
+is_left marked name = is_marked_holder marked name.holder
 
 -- The names that are left.
 
 module _ (m : List ℕ) where
-  appended : (xs ys zs : List Name) → filter (Passes m) xs ≡ xs → filter (Passes m) ys ≡ zs → filter (Passes m) (xs ++ ys) ≡ xs ++ zs
-  appended xs ys zs one other = filter-append (Passes m) xs ys ∙ (ap (λ l. l ++ filter (Passes m) ys) one ∙ ap (λ l. xs ++ l) other)
+  appended : (xs ys zs : List Name) → filter (is_left m) xs ≡ xs → filter (is_left m) ys ≡ zs → filter (is_left m) (xs ++ ys) ≡ xs ++ zs
+  appended xs ys zs one other = filter-append (is_left m) xs ys ∙ (ap (λ l. l ++ filter (is_left m) ys) one ∙ ap (λ l. xs ++ l) other)
 
-  table_passes : (entries : List TableEntry) → filter (Passes m) (map (λ entry. root entry.object) entries) ≡ map (λ entry. root entry.object) entries
+  table_passes : (entries : List TableEntry) → filter (is_left m) (map (λ entry. root entry.object) entries) ≡ map (λ entry. root entry.object) entries
   table_passes [] = refl
   table_passes (entry ∷ entries) = ap (λ l. root entry.object ∷ l) (table_passes entries)
 
-  apps_pass : (apps : List Application) → filter (Passes m) (flat_map table_names apps) ≡ flat_map table_names apps
+  apps_pass : (apps : List Application) → filter (is_left m) (flat_map table_names apps) ≡ flat_map table_names apps
   apps_pass [] = refl
   apps_pass (app ∷ apps) = appended (table_names app) (flat_map table_names apps) (flat_map table_names apps) (table_passes app.table) (apps_pass apps)
 
-  roots_pass : (objects : List ℕ) → filter (Passes m) (map root objects) ≡ map root objects
+  roots_pass : (objects : List ℕ) → filter (is_left m) (map root objects) ≡ map root objects
   roots_pass [] = refl
   roots_pass (object ∷ objects) = ap (λ l. root object ∷ l) (roots_pass objects)
 
-  wait_passes : (on : WaitOn) → filter (Passes m) (waited_names on) ≡ waited_names on
+  wait_passes : (on : WaitOn) → filter (is_left m) (waited_names on) ≡ waited_names on
   wait_passes (wait_on.Object object handle cookie) = refl
   wait_passes (wait_on.Connect end handle) = refl
   wait_passes wait_on.Any = refl
 
-  activity_passes : (a : Activity) → filter (Passes m) (activity_names a) ≡ activity_names a
+  activity_passes : (a : Activity) → filter (is_left m) (activity_names a) ≡ activity_names a
   activity_passes activity.Off = refl
   activity_passes (activity.Running start) = refl
   activity_passes (activity.Waiting start wait) = wait_passes wait.on
   activity_passes (activity.Ended start) = refl
 
-  threads_pass : (threads : List Thread) → filter (Passes m) (flat_map wait_names threads) ≡ flat_map wait_names threads
+  threads_pass : (threads : List Thread) → filter (is_left m) (flat_map wait_names threads) ≡ flat_map wait_names threads
   threads_pass [] = refl
   threads_pass (thread ∷ threads) =
       appended (wait_names thread) (flat_map wait_names threads) (flat_map wait_names threads) (activity_passes thread.activity) (threads_pass threads)
 
   -- a marked object's names are left, and no others
-  held_pass : (holder : ℕ) (b : Bool) → is_in m holder ≡ b → (objects : List ℕ) → filter (Passes m) (map (held_by holder) objects) ≡ cond b (map (held_by holder) objects) []
+  held_pass : (holder : ℕ) (b : Bool) → is_in m holder ≡ b → (objects : List ℕ) → filter (is_left m) (map (held_by holder) objects) ≡ cond b (map (held_by holder) objects) []
   held_pass holder true is [] = refl
   held_pass holder false is [] = refl
   held_pass holder true is (object ∷ objects) =
-      let rest : List Name = filter (Passes m) (map (held_by holder) objects) in
+      let rest : List Name = filter (is_left m) (map (held_by holder) objects) in
       ap (λ b. cond b (held_by holder object ∷ rest) rest) is ∙ ap (λ l. held_by holder object ∷ l) (held_pass holder true is objects)
   held_pass holder false is (object ∷ objects) =
-      let rest : List Name = filter (Passes m) (map (held_by holder) objects) in
+      let rest : List Name = filter (is_left m) (map (held_by holder) objects) in
       ap (λ b. cond b (held_by holder object ∷ rest) rest) is ∙ held_pass holder false is objects
 
   abbrev cut : Object → Object
@@ -83,20 +83,20 @@ module _ (m : List ℕ) where
   same_names : (object : Object) → object_names (cut object) ≡ object_names object
   same_names object = ap (λ l. map (held_by object.id) l) (same_named object.body)
 
-  objects_pass : (objects : List Object) → filter (Passes m) (flat_map object_names objects) ≡ flat_map object_names (map cut (filter (λ object. is_in m object.id) objects))
+  objects_pass : (objects : List Object) → filter (is_left m) (flat_map object_names objects) ≡ flat_map object_names (map cut (filter (λ object. is_in m object.id) objects))
   objects_pass [] = refl
   objects_pass (object ∷ objects) =
       let left : List Object = filter (λ o. is_in m o.id) objects in
       let names : List Name = object_names object in
       let rest : List Name = flat_map object_names (map cut left) in
-      let both : (b : Bool) → is_in m object.id ≡ b → filter (Passes m) names ++ rest ≡ flat_map object_names (map cut (cond b (object ∷ left) left)) =
-      λ b. elim b as (λ v. is_in m object.id ≡ v → filter (Passes m) names ++ rest ≡ flat_map object_names (map cut (cond v (object ∷ left) left))) [
+      let both : (b : Bool) → is_in m object.id ≡ b → filter (is_left m) names ++ rest ≡ flat_map object_names (map cut (cond b (object ∷ left) left)) =
+      λ b. elim b as (λ v. is_in m object.id ≡ v → filter (is_left m) names ++ rest ≡ flat_map object_names (map cut (cond v (object ∷ left) left))) [
         | true ↦ (λ is. ap (λ l. l ++ rest) (held_pass object.id true is (named_in object.body) ∙ sym (same_names object)))
         | false ↦ (λ is. ap (λ l. l ++ rest) (held_pass object.id false is (named_in object.body)))
       ] in
-      filter-append (Passes m) names (flat_map object_names objects) ∙ (ap (λ l. filter (Passes m) names ++ l) (objects_pass objects) ∙ both (is_in m object.id) refl)
+      filter-append (is_left m) names (flat_map object_names objects) ∙ (ap (λ l. filter (is_left m) names ++ l) (objects_pass objects) ∙ both (is_in m object.id) refl)
 
-  pub kept_naming : (c : CoreState) → filter (Passes m) (naming c) ≡ naming (kept m c)
+  pub kept_naming : (c : CoreState) → filter (is_left m) (naming c) ≡ naming (kept m c)
   unfolding naming kept
   kept_naming c =
       let objects : List Name = flat_map object_names c.objects in
@@ -127,66 +127,66 @@ there_pruned : (m : List ℕ) (c : CoreState) (id : ℕ) → is_there (pruned m 
 unfolding pruned
 there_pruned m c id = there_mapped (on_body (on_port (pruned_port m c.objects))) (λ object. refl) c.objects id
 
--- What is reached is what a passing name names.
+-- What is reached is what a name that is left names.
 
-abbrev Names : ℕ → Name → Bool
-Names object name = name.object == object
+abbrev is_name_of : ℕ → Name → Bool
+is_name_of object name = name.object == object
 
-count_first : (object : ℕ) (first : Name) (names : List Name) → count_by (Names object) (first ∷ names) ≡ cond (Names object first) 1 0 + count_by (Names object) names
-count_first object first names = sum_by-cons (λ name. cond (Names object name) 1 0) first names
+count_first : (object : ℕ) (first : Name) (names : List Name) → count_by (is_name_of object) (first ∷ names) ≡ cond (is_name_of object first) 1 0 + count_by (is_name_of object) names
+count_first object first names = sum_by-cons (λ name. cond (is_name_of object name) 1 0) first names
 
-counted : (m : List ℕ) (object : ℕ) (name : Name) (entries : List Name) → Among name entries → Passes m name ≡ true → Names object name ≡ true
-    → 0 < count_by (Names object) (filter (Passes m) entries)
+counted : (m : List ℕ) (object : ℕ) (name : Name) (entries : List Name) → Among name entries → is_left m name ≡ true → is_name_of object name ≡ true
+    → 0 < count_by (is_name_of object) (filter (is_left m) entries)
 counted m object name [] among passes is = absurd among
 counted m object name (other ∷ entries) (inl same) passes is =
-    let rest : List Name = filter (Passes m) entries in
-    let P : Name → Type 0 = λ n. Passes m n ≡ true × Names object n ≡ true in
-    let both : Passes m other ≡ true × Names object other ≡ true = subst P (sym same) (passes, is) in
-    subst (λ (b : Bool). 0 < count_by (Names object) (cond b (other ∷ rest) rest)) (sym both.0)
-    (subst (λ n. 0 < n) (sym (count_first object other rest)) (subst (λ (b : Bool). 0 < cond b 1 0 + count_by (Names object) rest) (sym both.1) (omega arith)))
+    let rest : List Name = filter (is_left m) entries in
+    let P : Name → Type 0 = λ n. is_left m n ≡ true × is_name_of object n ≡ true in
+    let both : is_left m other ≡ true × is_name_of object other ≡ true = subst P (sym same) (passes, is) in
+    subst (λ (b : Bool). 0 < count_by (is_name_of object) (cond b (other ∷ rest) rest)) (sym both.0)
+    (subst (λ n. 0 < n) (sym (count_first object other rest)) (subst (λ (b : Bool). 0 < cond b 1 0 + count_by (is_name_of object) rest) (sym both.1) (omega arith)))
 counted m object name (other ∷ entries) (inr more) passes is =
-    let rest : List Name = filter (Passes m) entries in
-    let few : 0 < count_by (Names object) rest = counted m object name entries more passes is in
-    elim (Passes m other) as (λ b. 0 < count_by (Names object) (cond b (other ∷ rest) rest)) [
+    let rest : List Name = filter (is_left m) entries in
+    let few : 0 < count_by (is_name_of object) rest = counted m object name entries more passes is in
+    elim (is_left m other) as (λ b. 0 < count_by (is_name_of object) (cond b (other ∷ rest) rest)) [
       | true ↦ subst (λ n. 0 < n) (sym (count_first object other rest)) (omega (arith, few))
       | false ↦ few
     ]
 
--- a name that passes and is of the object
+-- a name that is left and is of the object
 record PassingName (m : List ℕ) (object : ℕ) (entries : List Name) : Type 0 where
   name : Name
   among : Among name entries
-  passes : Passes m name ≡ true
-  names : Names object name ≡ true
+  passes : is_left m name ≡ true
+  names : is_name_of object name ≡ true
 
 one_more : (m : List ℕ) (object : ℕ) (first : Name) (entries : List Name) → PassingName m object entries → PassingName m object (first ∷ entries)
 one_more m object first entries found = record { name = found.name; among = inr found.among; passes = found.passes; names = found.names }
 
-passing : (m : List ℕ) (object : ℕ) (entries : List Name) → 0 < count_by (Names object) (filter (Passes m) entries) → PassingName m object entries
+passing : (m : List ℕ) (object : ℕ) (entries : List Name) → 0 < count_by (is_name_of object) (filter (is_left m) entries) → PassingName m object entries
 passing m object [] few = absurd (omega (arith, few))
 passing m object (first ∷ entries) few =
-    let rest : List Name = filter (Passes m) entries in
-    let more : 0 < count_by (Names object) rest → PassingName m object (first ∷ entries) = λ left. one_more m object first entries (passing m object entries left) in
-    let named : (b : Bool) → Passes m first ≡ true → Names object first ≡ b → 0 < cond b 1 0 + count_by (Names object) rest → PassingName m object (first ∷ entries) =
-    λ b. elim b as (λ v. Passes m first ≡ true → Names object first ≡ v → 0 < cond v 1 0 + count_by (Names object) rest → PassingName m object (first ∷ entries)) [
+    let rest : List Name = filter (is_left m) entries in
+    let more : 0 < count_by (is_name_of object) rest → PassingName m object (first ∷ entries) = λ left. one_more m object first entries (passing m object entries left) in
+    let named : (b : Bool) → is_left m first ≡ true → is_name_of object first ≡ b → 0 < cond b 1 0 + count_by (is_name_of object) rest → PassingName m object (first ∷ entries) =
+    λ b. elim b as (λ v. is_left m first ≡ true → is_name_of object first ≡ v → 0 < cond v 1 0 + count_by (is_name_of object) rest → PassingName m object (first ∷ entries)) [
       | true ↦ (λ passes is left. record { name = first; among = inl refl; passes = passes; names = is })
       | false ↦ (λ passes is left. more (omega (arith, left)))
     ] in
-    let go : (b : Bool) → Passes m first ≡ b → 0 < count_by (Names object) (cond b (first ∷ rest) rest) → PassingName m object (first ∷ entries) =
-    λ b. elim b as (λ v. Passes m first ≡ v → 0 < count_by (Names object) (cond v (first ∷ rest) rest) → PassingName m object (first ∷ entries)) [
-      | true ↦ (λ passes left. named (Names object first) passes refl (subst (λ n. 0 < n) (count_first object first rest) left))
+    let go : (b : Bool) → is_left m first ≡ b → 0 < count_by (is_name_of object) (cond b (first ∷ rest) rest) → PassingName m object (first ∷ entries) =
+    λ b. elim b as (λ v. is_left m first ≡ v → 0 < count_by (is_name_of object) (cond v (first ∷ rest) rest) → PassingName m object (first ∷ entries)) [
+      | true ↦ (λ passes left. named (is_name_of object first) passes refl (subst (λ n. 0 < n) (count_first object first rest) left))
       | false ↦ (λ passes left. more left)
     ] in
-    go (Passes m first) refl few
+    go (is_left m first) refl few
 
 module _ (entries : List Name) where
   abbrev marked : List ℕ
   marked = reached_by entries
 
-  same_object : (object : ℕ) → Names object (root object) ≡ true
+  same_object : (object : ℕ) → is_name_of object (root object) ≡ true
   same_object object = grind (arith, tests)
 
-  reached_named : (object : ℕ) → Reached entries object → 0 < count_by (Names object) (filter (Passes marked) entries)
+  reached_named : (object : ℕ) → Reached entries object → 0 < count_by (is_name_of object) (filter (is_left marked) entries)
   reached_named object (by_root _ among) = counted marked object (root object) entries among refl (same_object object)
   reached_named object (by_holder holder _ held among) =
       counted marked object (held_by holder object) entries among ((marked_is_reached entries holder).1 held) (same_object object)
@@ -197,17 +197,17 @@ module _ (entries : List Name) where
   passing_reached object (Some holder) named among passes same =
       subst (λ n. Reached entries n) same (by_holder holder named ((marked_is_reached entries holder).0 passes) among)
 
-  named_reached : (object : ℕ) → 0 < count_by (Names object) (filter (Passes marked) entries) → Reached entries object
+  named_reached : (object : ℕ) → 0 < count_by (is_name_of object) (filter (is_left marked) entries) → Reached entries object
   named_reached object few =
       let found : PassingName marked object entries = passing marked object entries few in
-      let is : Names object found.name ≡ true = found.names in
+      let is : is_name_of object found.name ≡ true = found.names in
       let same : found.name.object ≡ object = grind (arith, tests) in
       passing_reached object found.name.holder found.name.object found.among found.passes same
 
-  pub marked_named : (object : ℕ) → is_in marked object ≡ true → 0 < names_of (filter (Passes marked) entries) object
+  pub marked_named : (object : ℕ) → is_in marked object ≡ true → 0 < names_of (filter (is_left marked) entries) object
   marked_named object is = reached_named object ((marked_is_reached entries object).0 is)
 
-  pub named_marked : (object : ℕ) → 0 < names_of (filter (Passes marked) entries) object → is_in marked object ≡ true
+  pub named_marked : (object : ℕ) → 0 < names_of (filter (is_left marked) entries) object → is_in marked object ≡ true
   named_marked object few = (marked_is_reached entries object).1 (named_reached object few)
 
 -- The sweep.
@@ -223,7 +223,7 @@ module _ (c : CoreState) (object : ℕ) where
   unfolding sweep
   there_swept = there_kept marks before object ∙ ap (λ b. is_in marks object && b) (there_pruned (reached c) c object)
 
-  names_left : names_of (filter (Passes marks) (naming before)) object ≡ names_of (naming (sweep c)) object
+  names_left : names_of (filter (is_left marks) (naming before)) object ≡ names_of (naming (sweep c)) object
   unfolding sweep
   names_left = ap (λ l. names_of l object) (kept_naming marks before)
 
