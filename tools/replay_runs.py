@@ -36,7 +36,7 @@ def without_turns(scene):
 
 def actors(scene):
     """The numbers of the actors by their names in reports: the threads, application by application, then the clients."""
-    threads, clients, app = [], [], None
+    threads, clients, app, count = [], [], None, 0
     for line in scene.split(b"\n"):
         words = line.split()
         if words[:1] == [b"app"]:
