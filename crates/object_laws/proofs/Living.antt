@@ -1,5 +1,5 @@
 -- Each step ends with a sweep or leaves the core as it is, so that along every history what is there is named.
-use Rattle.std.proofs.Common.{◌≡◌, ℕ, ◌<◌, ◌++◌, Bool, true, false, cond, ◌==◌, List, [], ◌∷◌, length, Option, Some, None, Result, Ok, Err, refl, sym, subst, not, ◌≤◌}
+use Rattle.std.proofs.Common.{◌≡◌, ℕ, ◌<◌, ◌++◌, Bool, true, false, cond, ◌==◌, List, [], ◌∷◌, Option, Some, None, Ok, Err, refl, subst, not}
 use Rattle.std.specs.Prelude.{slice_get}
 use Rattle.std.specs.List.{find, fold}
 use Rattle.std.specs.Option.{option_map}
@@ -8,7 +8,6 @@ use Rattle.kernel_values.specs.declared.call.Call.{Call}
 use Rattle.kernel_values.specs.declared.entry.Entry.{Entry}
 use Rattle.kernel_values.specs.declared.entry.Event.{Event}
 use Rattle.kernel_values.specs.declared.entry.Event.TheVariants as event
-use Rattle.kernel_values.specs.declared.errno.Errno.{Errno}
 use Rattle.kernel_values.specs.declared.errno.Errno.TheVariants as errno
 use Rattle.kernel_values.specs.declared.state.Activity.{Activity}
 use Rattle.kernel_values.specs.declared.state.Activity.TheVariants as activity

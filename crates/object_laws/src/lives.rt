@@ -11,8 +11,8 @@ ghost use Rattle.kernel_types.specs.Objects.{is_there};
 ghost use Rattle.kernel_types.specs.Opening.{opening};
 ghost use Rattle.kernel_types.specs.Sweep.{sweep};
 
-/// The sweep, which ends each step, leaves exactly those of the objects that an entry names after it: it
-/// takes none away that is still named, and leaves none that is not.
+/// The sweep, which ends each step that changes what the kernel holds, leaves exactly those of the objects
+/// that an entry names after it: it takes none away that is still named, and leaves none that is not.
 pub fn sweeps_leave_what_is_named()
     ensures { (c : CoreState) (object : ℕ) → (is_there (sweep c).objects object ≡ true)
         ↔ ((is_there c.objects object ≡ true) × (0 < names_of (naming (sweep c)) object)) }

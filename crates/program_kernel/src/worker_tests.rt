@@ -104,7 +104,7 @@ fn run_by_one<R: Wait, K: IpcKernel + Drop>(
 }
 
 #[test]
-fn one_worker(rt: HostRuntime) -> Result<(), Fail> {
+fn a_worker_alone_makes_its_whole_script(rt: HostRuntime) -> Result<(), Fail> {
     let alloc = rt.alloc();
     let Ok(scene) = read_scene(alloc, ONE_THREAD.as_bytes()) else {
         panic!(rt; "the scene is refused")
