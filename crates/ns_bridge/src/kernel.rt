@@ -355,8 +355,14 @@ impl<C: Core + Drop> IpcKernel for Kernel<C> {
         match self.mover_of(&event) {
             Mover::Thread => self.step_thread(event),
             Mover::Client(client) => self.step_client(client, event),
-            Mover::Device => self.step_device(),
-            Mover::Idle => self.step_idle(),
+            Mover::Device => {
+                drop(event);
+                self.step_device()
+            }
+            Mover::Idle => {
+                drop(event);
+                self.step_idle()
+            }
         }
     }
 

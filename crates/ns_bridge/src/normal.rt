@@ -165,8 +165,8 @@ fn ask_driver(
     ensures err_driver { OnErr result (driver.new ≡ driver.old) }
     ensures err_clients { OnErr result (clients.new ≡ clients.old) }
 {
-    let copy = call.copied()?;
     let deadline = deadline_after(clock, call)?;
+    let copy = call.copied()?;
     let answer = driver.act(memory, client, Some(copy))?;
     begin_to_wait(clients, client, deadline, driver.wait_of(client));
     Ok(answer)

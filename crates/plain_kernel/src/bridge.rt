@@ -92,8 +92,15 @@ pub fn connect(core: &mut CoreState, path: &Bytes) -> Result<Option<Errno>, NoMe
     let id = object.id;
     let body = object.body.copied()?;
     match &body {
-        Body::Port(port) => Ok(connect_to_port(core, id, port)?),
-        _ => Ok(Some(Errno::NotFound)),
+        Body::Port(port) => {
+            let refused = connect_to_port(core, id, port);
+            drop(body);
+            Ok(refused?)
+        }
+        _ => {
+            drop(body);
+            Ok(Some(Errno::NotFound))
+        }
     }
 }
 

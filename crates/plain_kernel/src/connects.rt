@@ -259,8 +259,15 @@ fn connect_on(
     let id = object.id;
     let body = object.body.copied()?;
     match &body {
-        Body::Port(port) => Ok(connect_to_port(core, thread, app, path, flags, id, port)?),
-        _ => Ok(connect_to_nothing(core, thread, app, path, flags)?),
+        Body::Port(port) => {
+            let told = connect_to_port(core, thread, app, path, flags, id, port);
+            drop(body);
+            Ok(told?)
+        }
+        _ => {
+            drop(body);
+            Ok(connect_to_nothing(core, thread, app, path, flags)?)
+        }
     }
 }
 

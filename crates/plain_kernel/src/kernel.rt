@@ -71,8 +71,15 @@ fn ready(core: CoreState) -> Result<Next, NoMemory>
     ensures core_is { IfOk result (λ next. next.core ≡ core) }
     ensures listed { IfOk result (λ next. IsListed next) }
 {
-    let survey = Survey::of(&core)?;
-    let statuses = statuses_of(&core)?;
+    let Ok(survey) = Survey::of(&core) else {
+        drop(core);
+        return Err(NoMemory);
+    };
+    let Ok(statuses) = statuses_of(&core) else {
+        drop(core);
+        drop(survey);
+        return Err(NoMemory);
+    };
     Ok(Next {
         core,
         survey,
@@ -145,8 +152,13 @@ impl PlainKernel {
     {
         let is_idle = self.is_idle();
         let mut core = self.core.copied()?;
-        let told = run_event(&mut core, event, is_idle)?;
-        Ok((core, told))
+        match run_event(&mut core, event, is_idle) {
+            Ok(told) => Ok((core, told)),
+            Err(refused) => {
+                drop(core);
+                Err(refused)
+            }
+        }
     }
 
     #[tactic(auto, unfolding(kernel_types::specs::Kernel::step_limit))]
@@ -158,14 +170,20 @@ impl PlainKernel {
             return Err(StepCause::NoMemory);
         };
         let Some(told) = told else {
+            drop(core);
             return Err(StepCause::NotMovable(self.status_for(event)));
         };
         if self.made == u32::MAX {
+            drop(core);
+            drop(told);
             return Err(StepCause::Full);
         }
         match ready(core) {
             Ok(next) => Ok((next, told)),
-            Err(_) => Err(StepCause::NoMemory),
+            Err(_) => {
+                drop(told);
+                Err(StepCause::NoMemory)
+            }
         }
     }
 
@@ -179,8 +197,14 @@ impl PlainKernel {
         };
         match bridge::connect(&mut core, path) {
             Ok(None) => {}
-            Ok(Some(errno)) => return Err(NsRefused::Errno(errno)),
-            Err(_) => return Err(NsRefused::NoMemory),
+            Ok(Some(errno)) => {
+                drop(core);
+                return Err(NsRefused::Errno(errno));
+            }
+            Err(_) => {
+                drop(core);
+                return Err(NsRefused::NoMemory);
+            }
         }
         match ready(core) {
             Ok(next) => Ok(next),
@@ -194,9 +218,16 @@ impl PlainKernel {
         ensures { IfOk result (λ (next, sent). IsListed next × (ns_push self.now.core end bytes.now ≡ pushed sent next.core)) }
     {
         let mut core = self.core.copied()?;
-        let sent = bridge::push(&mut core, end, bytes)?;
-        let next = ready(core)?;
-        Ok((next, sent))
+        match bridge::push(&mut core, end, bytes) {
+            Ok(sent) => {
+                let next = ready(core)?;
+                Ok((next, sent))
+            }
+            Err(refused) => {
+                drop(core);
+                Err(refused)
+            }
+        }
     }
 }
 

@@ -244,7 +244,9 @@ pub fn port_create_call(
     };
     let handle = least_free_handle(table_of(core, app));
     let id = core.next;
-    publish(core, &port)?;
+    let published = publish(core, &port);
+    drop(port);
+    published?;
     install(core, app, id)?;
     Ok(gives(Reply::Handle(handle)))
 }

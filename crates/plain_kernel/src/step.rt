@@ -46,59 +46,63 @@ fn act_on(
 ) -> Result<Option<Told>, NoMemory>
     ensures { IfOk result (λ told. outcome_if told core.new ≡ act core.old thread app call.now) }
 {
-    Ok(Some(match call {
+    let told = match call {
         Call::PortCreate {
             path,
             bufs,
             size,
             flags,
-        } => port_create_call(core, app, path, *bufs, *size, *flags)?,
-        Call::Connect { path, flags } => connect_call(core, thread, app, path, *flags)?,
-        Call::Accept { port } => accept_call(core, app, *port)?,
-        Call::Send { chan, bytes, parts } => send_call(core, app, *chan, bytes, parts)?,
-        Call::Get { chan } => get_call(core, app, *chan)?,
+        } => port_create_call(core, app, path, *bufs, *size, *flags),
+        Call::Connect { path, flags } => connect_call(core, thread, app, path, *flags),
+        Call::Accept { port } => accept_call(core, app, *port),
+        Call::Send { chan, bytes, parts } => send_call(core, app, *chan, bytes, parts),
+        Call::Get { chan } => get_call(core, app, *chan),
         Call::Read {
             chan,
             id,
             offset,
             room,
             parts,
-        } => read_call(core, app, *chan, *id, *offset, *room, *parts)?,
-        Call::Put { chan, id } => put_call(core, app, *chan, *id),
-        Call::SetCookie { handle, cookie } => set_cookie_call(core, app, *handle, *cookie)?,
-        Call::Close { handle } => close_call(core, app, *handle)?,
-        Call::Dup { handle } => dup_call(core, app, *handle)?,
-        Call::SetCreate => set_create_call(core, app)?,
+        } => read_call(core, app, *chan, *id, *offset, *room, *parts),
+        Call::Put { chan, id } => Ok(put_call(core, app, *chan, *id)),
+        Call::SetCookie { handle, cookie } => set_cookie_call(core, app, *handle, *cookie),
+        Call::Close { handle } => close_call(core, app, *handle),
+        Call::Dup { handle } => dup_call(core, app, *handle),
+        Call::SetCreate => set_create_call(core, app),
         Call::SetAdd {
             set,
             handle,
             mask,
             cookie,
-        } => set_add_call(core, app, *set, *handle, *mask, *cookie)?,
-        Call::SetDel { set, label } => set_del_call(core, app, *set, *label)?,
+        } => set_add_call(core, app, *set, *handle, *mask, *cookie),
+        Call::SetDel { set, label } => set_del_call(core, app, *set, *label),
         Call::SetMod {
             set,
             label,
             mask,
             cookie,
-        } => set_mod_call(core, app, *set, *label, *mask, *cookie)?,
-        Call::MemCreate { size, flags } => mem_create_call(core, app, *size, *flags)?,
+        } => set_mod_call(core, app, *set, *label, *mask, *cookie),
+        Call::MemCreate { size, flags } => mem_create_call(core, app, *size, *flags),
         Call::MemRead {
             handle,
             offset,
             len,
-        } => mem_read_call(core, app, *handle, *offset, *len)?,
+        } => mem_read_call(core, app, *handle, *offset, *len),
         Call::MemWrite {
             handle,
             offset,
             bytes,
-        } => mem_write_call(core, app, *handle, *offset, bytes)?,
-        Call::Wait { handle, timeout } => wait_call(core, thread, app, *handle, *timeout)?,
-        Call::WaitAny { timeout } => wait_any_call(core, thread, app, *timeout)?,
-        Call::Exit { code: _ } => exit_call(core, app)?,
-        Call::Finish => finish_call(core, thread, app)?,
+        } => mem_write_call(core, app, *handle, *offset, bytes),
+        Call::Wait { handle, timeout } => wait_call(core, thread, app, *handle, *timeout),
+        Call::WaitAny { timeout } => wait_any_call(core, thread, app, *timeout),
+        Call::Exit { code: _ } => exit_call(core, app),
+        Call::Finish => finish_call(core, thread, app),
         _ => return Ok(None),
-    }))
+    };
+    match told {
+        Ok(told) => Ok(Some(told)),
+        Err(refused) => Err(refused),
+    }
 }
 
 /// A call of a thread that runs, by its present start.
@@ -124,7 +128,10 @@ fn begin(
     let Some(told) = act_on(core, thread, app, call)? else {
         return Ok(None);
     };
-    sweep_state(core)?;
+    if let Err(refused) = sweep_state(core) {
+        drop(told);
+        return Err(refused);
+    }
     Ok(Some(told))
 }
 
@@ -151,7 +158,10 @@ fn resume(core: &mut CoreState, thread: u32, start: u32) -> Result<Option<Told>,
         return Ok(None);
     };
     run_again(core, thread);
-    sweep_state(core)?;
+    if let Err(refused) = sweep_state(core) {
+        drop(told);
+        return Err(refused);
+    }
     Ok(Some(told))
 }
 

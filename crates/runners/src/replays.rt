@@ -55,13 +55,21 @@ pub fn replay<K: IpcKernel + Drop>(
     let mut shared = Shared::new(alloc, kernel, scene)?;
     let turns = scene.turns.as_slice();
     for at in 0..turns.len() {
-        match shared.turn(turns[at])? {
+        let Ok(taken) = shared.turn(turns[at]) else {
+            drop(shared);
+            return Err(ReplayRefused::NoMemory);
+        };
+        match taken {
             Taken::Stepped => {}
-            Taken::Unlawful => return Err(ReplayRefused::Turn(at as u64)),
+            Taken::Unlawful => {
+                drop(shared);
+                return Err(ReplayRefused::Turn(at as u64));
+            }
         }
     }
     shared.legal();
     if !shared.is_over() {
+        drop(shared);
         return Err(ReplayRefused::Turn(turns.len() as u64));
     }
     Ok(shared.into_logged())

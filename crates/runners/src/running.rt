@@ -181,6 +181,27 @@ fn run_all<R: Threads + Wait + Sync, K: IpcKernel + Drop + Send, H: Hook + Sync>
     )
 }
 
+// A worker for each actor, which makes its calls to the end of the run; and the passes of all of them.
+fn worked_off<R: Threads + Wait + Sync, K: IpcKernel + Drop + Send, H: Hook + Sync>(
+    rt: &R,
+    alloc: Global,
+    turnstile: &Turnstile<Shared<K>>,
+    pass: Pass,
+    actors: u32,
+    bell: &Bell,
+    hook: &H,
+) -> Result<Vec<Pass>, NoMemory>
+    requires pass { Rests turnstile.now pass }
+    requires actors { actors ≡ length (first_of turnstile.now).origin.scripts }
+    ensures all { IfOk result (λ passes. All (Rests turnstile.now) passes.items) }
+    ensures len { IfOk result (λ passes. length passes.items ≡ actors + 1) }
+{
+    let mut pass = pass;
+    let workers = staffed(alloc, turnstile, &mut pass, actors)?;
+    let workers = run_all(rt, alloc, turnstile, workers, bell, hook)?;
+    passes_of(alloc, turnstile, pass, workers)
+}
+
 // The run of the scene that the workers have left: whole, or as long as a run may be; or they left it before either.
 #[tactic(auto, unfolding(kernel_types::specs::Turns::history_limit))]
 fn finished<K: IpcKernel + Drop>(
@@ -204,6 +225,7 @@ fn finished<K: IpcKernel + Drop>(
     } else if full {
         Err(RunRefused::TooLong(logged))
     } else {
+        drop(logged);
         Err(RunRefused::NoMemory)
     }
 }
@@ -226,16 +248,33 @@ pub fn threads<R: Threads + Wait + Sync, K: IpcKernel + Drop + Send, H: Hook + S
     ensures cut_carried { IfErr result (λ refused. StoppedCarries scene.now refused) }
 {
     let shared = Shared::new(alloc, kernel, scene)?;
-    let bell = shared.bell().again()?;
-    let actors = shared.actors();
-    let Ok((turnstile, mut pass)) = Turnstile::new(alloc, shared, actors + 1) else {
+    let Ok(bell) = shared.bell().again() else {
+        drop(shared);
         return Err(RunRefused::NoMemory);
     };
-    let workers = staffed(alloc, &turnstile, &mut pass, actors)?;
-    let workers = run_all(rt, alloc, &turnstile, workers, &bell, hook)?;
-    let passes = passes_of(alloc, &turnstile, pass, workers)?;
+    let actors = shared.actors();
+    let (turnstile, pass) = match Turnstile::new(alloc, shared, actors + 1) {
+        Ok(made) => made,
+        Err(refused) => {
+            drop(bell);
+            drop(refused);
+            return Err(RunRefused::NoMemory);
+        }
+    };
+    let worked = worked_off(rt, alloc, &turnstile, pass, actors, &bell, hook);
+    drop(bell);
+    let Ok(passes) = worked else {
+        drop(turnstile);
+        return Err(RunRefused::NoMemory);
+    };
     match turnstile.close(alloc, passes) {
-        Ok((shared, _pass)) => finished(shared, scene),
-        Err(_) => Err(RunRefused::NoMemory),
+        Ok((shared, pass)) => {
+            drop(pass);
+            finished(shared, scene)
+        }
+        Err(refused) => {
+            drop(refused);
+            Err(RunRefused::NoMemory)
+        }
     }
 }

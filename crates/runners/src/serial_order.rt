@@ -140,7 +140,10 @@ pub fn serial<K: IpcKernel + Drop>(
     frames_are_carried_in_order();
     is_lawful(scene);
     let mut shared = Shared::new(alloc, kernel, scene)?;
-    run_serially(&mut shared)?;
+    let Ok(()) = run_serially(&mut shared) else {
+        drop(shared);
+        return Err(RunRefused::NoMemory);
+    };
     shared.legal();
     if shared.is_over() {
         Ok(shared.into_logged())

@@ -55,9 +55,21 @@ impl<K: IpcKernel + Drop> Shared<K> {
         ensures origin { IfOk result (λ shared. shared.origin ≡ record { state = opening scene.now; scripts = scripts_of scene.now; made = 0 }) }
         ensures history { IfOk result (λ shared. shared.history ≡ []) }
     {
-        let scripts = scripts_of(alloc, scene)?;
-        let places = places_of(alloc, scripts.as_slice())?;
-        let bell = Bell::new(alloc)?;
+        let Ok(scripts) = scripts_of(alloc, scene) else {
+            drop(kernel);
+            return Err(NoMemory);
+        };
+        let Ok(places) = places_of(alloc, scripts.as_slice()) else {
+            drop(kernel);
+            drop(scripts);
+            return Err(NoMemory);
+        };
+        let Ok(bell) = Bell::new(alloc) else {
+            drop(kernel);
+            drop(scripts);
+            drop(places);
+            return Err(NoMemory);
+        };
         Ok(Shared {
             logged: Logged::new(alloc, kernel),
             scripts,

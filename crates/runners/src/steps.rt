@@ -30,11 +30,15 @@ pub fn step_once<K: IpcKernel + Drop>(
 {
     match logged.step(event) {
         Ok(receipt) => Ok(Some(receipt)),
-        Err(refused) => match refused.cause {
-            StepCause::NotMovable(_) => Ok(None),
-            StepCause::Full => unreachable!(),
-            StepCause::NoMemory => Err(NoMemory),
-        },
+        Err(refused) => {
+            let cause = refused.cause;
+            drop(refused);
+            match cause {
+                StepCause::NotMovable(_) => Ok(None),
+                StepCause::Full => unreachable!(),
+                StepCause::NoMemory => Err(NoMemory),
+            }
+        }
     }
 }
 

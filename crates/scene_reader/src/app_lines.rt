@@ -1,6 +1,6 @@
 //! Applications.
 
-ghost use Rattle.std.specs.Prelude.{◌≡◌, IfOk, IsTrue, map};
+ghost use Rattle.std.specs.Prelude.{◌≡◌, ◌++◌, ◌∷◌, [], IfOk, IsTrue, map};
 ghost use Rattle.std.specs.List.{list_all};
 ghost use Rattle.kernel_values.specs.Words.{is_name};
 ghost use Rattle.app_manifest.specs.Spelled.{HasLawfulPorts};
@@ -17,7 +17,9 @@ use crate::numbers::is_name;
 use crate::reading::{Noted, OpenApp, Place, Registered};
 use crate::texts::after_two_words;
 use app_manifest::{manifests_are_lawful, read_manifest};
-use kernel_values::{Bytes, Copied, Items, Manifest, Script, ScriptList, StartPort, StartPortList};
+use kernel_values::{
+    Bytes, Copied, Items, Manifest, NoMemory, Script, ScriptList, StartPort, StartPortList,
+};
 use std::alloc::Global;
 
 // Without a manifest an application has its number and 1 as UUID, and no more.
@@ -89,6 +91,37 @@ fn new_app(alloc: Global, name: Bytes, manifest: Manifest) -> Place
     })
 }
 
+fn named_last(
+    alloc: Global,
+    before: Registered,
+    name: &[u8],
+    manifest: Manifest,
+) -> Result<(Registered, Place), NoMemory>
+    ensures { IfOk result (λ next. next ≡ (record before { noted = record before.noted { names = before.noted.names ++ name.now ∷ [] } }, new_app name.now manifest)) }
+{
+    let mut before = before;
+    let Ok(named) = Bytes::from_slice(alloc, name) else {
+        drop(before);
+        drop(manifest);
+        return Err(NoMemory);
+    };
+    let Ok(noted) = Bytes::from_slice(alloc, name) else {
+        drop(before);
+        drop(manifest);
+        drop(named);
+        return Err(NoMemory);
+    };
+    match before.noted.names.push(noted) {
+        Ok(()) => Ok((before, new_app(alloc, named, manifest))),
+        Err(_) => {
+            drop(before);
+            drop(manifest);
+            drop(named);
+            Err(NoMemory)
+        }
+    }
+}
+
 // The application with this name and manifest comes last.
 #[tactic(auto, unfolding(crate::specs::Reading::with_app))]
 fn with_app(
@@ -100,28 +133,48 @@ fn with_app(
 ) -> Result<(Registered, Place), LineRefused>
     ensures { Gives (λ next. next) result (with_app before last name.now manifest) }
 {
+    let mut before = before;
+    if is_named(&before.noted, name) {
+        drop(before);
+        drop(last);
+        drop(manifest);
+        return Err(Fault(NameTaken));
+    }
+    if let Err(refused) = with_ports(&mut before.noted.ports, manifest.ports.as_slice()) {
+        drop(before);
+        drop(last);
+        drop(manifest);
+        return Err(refused);
+    }
+    if before.noted.names.len() >= 32 {
+        drop(before);
+        drop(last);
+        drop(manifest);
+        return Err(Fault(TooMany));
+    }
     let Registered {
         apps,
         clients,
         noted,
     } = before;
-    let mut noted = noted;
-    if is_named(&noted, name) {
-        return Err(Fault(NameTaken));
+    match settled(apps, clients, last) {
+        Ok((apps, clients)) => {
+            let before = Registered {
+                apps,
+                clients,
+                noted,
+            };
+            match named_last(alloc, before, name, manifest) {
+                Ok(next) => Ok(next),
+                Err(_) => Err(LineRefused::NoMemory),
+            }
+        }
+        Err(_) => {
+            drop(noted);
+            drop(manifest);
+            Err(LineRefused::NoMemory)
+        }
     }
-    with_ports(&mut noted.ports, manifest.ports.as_slice())?;
-    if noted.names.len() >= 32 {
-        return Err(Fault(TooMany));
-    }
-    let (apps, clients) = settled(apps, clients, last)?;
-    noted.names.push(Bytes::from_slice(alloc, name)?)?;
-    let app = new_app(alloc, Bytes::from_slice(alloc, name)?, manifest);
-    let after = Registered {
-        apps,
-        clients,
-        noted,
-    };
-    Ok((after, app))
 }
 
 // The application with this name, and the rest of the line as its manifest.
@@ -138,10 +191,13 @@ fn described_app(
     ensures exact { Gives (λ next. next) result (described_app before last line.now name.now) }
     ensures kept { (used : Used) → IsLawful before last used → IfOk result (λ next. IsLawful next.0 next.1 used) }
 {
-    let manifest = manifest_act(alloc, before.noted.names.len(), after_two_words(line))?;
-    match with_app(alloc, before, last, name, manifest) {
-        Ok(next) => Ok(next),
-        Err(refused) => Err(refused),
+    match manifest_act(alloc, before.noted.names.len(), after_two_words(line)) {
+        Ok(manifest) => with_app(alloc, before, last, name, manifest),
+        Err(refused) => {
+            drop(before);
+            drop(last);
+            Err(refused)
+        }
     }
 }
 
@@ -158,9 +214,13 @@ fn named_app(
     ensures kept { (used : Used) → IsLawful before last used → IfOk result (λ next. IsLawful next.0 next.1 used) }
 {
     let [name, ..] = words else {
+        drop(before);
+        drop(last);
         return Err(Fault(BadWords));
     };
     if !is_name(name) {
+        drop(before);
+        drop(last);
         return Err(Fault(BadWords));
     }
     Ok(described_app(alloc, before, last, line, name)?)
@@ -180,6 +240,8 @@ pub fn app_act(
     ensures kept { (used : Used) → IsLawful before last used → IfOk result (λ next. IsLawful next.0 next.1 used) }
 {
     if is_in_repeat(&last) {
+        drop(before);
+        drop(last);
         return Err(Fault(OutOfPlace));
     }
     Ok(named_app(alloc, before, last, line, words)?)

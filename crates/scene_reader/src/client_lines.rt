@@ -1,6 +1,6 @@
 //! Clients, their commands, and repeats of these.
 
-ghost use Rattle.std.specs.Prelude.{◌≡◌, IfOk, IsTrue, map};
+ghost use Rattle.std.specs.Prelude.{◌≡◌, ◌++◌, ◌∷◌, [], IfOk, IsTrue, map};
 ghost use Rattle.kernel_values.specs.Words.{is_name};
 ghost use Rattle.scene_reader.specs.Gives.{Gives};
 ghost use Rattle.scene_reader.specs.Lawful.{IsLawful};
@@ -19,7 +19,7 @@ use crate::numbers::is_name;
 use crate::reading::{OpenClient, Place, Registered, Repeat, Used};
 use crate::repeats::{after_repeat, extended, push_repeated};
 use crate::words::ClientWord;
-use kernel_values::{Bytes, Command, Items, Script};
+use kernel_values::{Bytes, Command, Items, NoMemory, Script};
 use std::alloc::Global;
 use std::mem;
 
@@ -32,10 +32,21 @@ fn with_client_command(
 ) -> Result<(Used, Place), LineRefused>
     ensures { Gives (λ next. next) result (with_client_command used client command) }
 {
-    let after = after_command(used, &command)?;
     let mut client = client;
-    client.script.push(command)?;
-    Ok((after, Place::Client(client)))
+    match after_command(used, &command) {
+        Ok(after) => match client.script.push(command) {
+            Ok(()) => Ok((after, Place::Client(client))),
+            Err(_) => {
+                drop(client);
+                Err(LineRefused::NoMemory)
+            }
+        },
+        Err(refused) => {
+            drop(client);
+            drop(command);
+            Err(refused)
+        }
+    }
 }
 
 // A line of the last client's script.
@@ -78,14 +89,37 @@ fn client_repeat_line(
     ensures kept { (before : Registered) → (used : Used) → IsLawful before (place.ClientRepeat client repeat) used → IfOk result (λ next. IsLawful before next used) }
 {
     if repeat.is_past {
-        client_command_line(alloc, Items::new(alloc), word, words)?;
-        return Ok(Place::ClientRepeat(client, repeat));
+        return match client_command_line(alloc, Items::new(alloc), word, words) {
+            Ok(unkept) => {
+                drop(unkept);
+                Ok(Place::ClientRepeat(client, repeat))
+            }
+            Err(refused) => {
+                drop(client);
+                drop(repeat);
+                Err(refused)
+            }
+        };
     }
     let mut client = client;
     let names = mem::replace(&mut client.names, Items::new(alloc));
-    let (names, command) = client_command_line(alloc, names, word, words)?;
-    client.names = names;
-    Ok(Place::ClientRepeat(client, extended(repeat, command)?))
+    match client_command_line(alloc, names, word, words) {
+        Ok((names, command)) => {
+            drop(mem::replace(&mut client.names, names));
+            match extended(repeat, command) {
+                Ok(repeat) => Ok(Place::ClientRepeat(client, repeat)),
+                Err(_) => {
+                    drop(client);
+                    Err(LineRefused::NoMemory)
+                }
+            }
+        }
+        Err(refused) => {
+            drop(client);
+            drop(repeat);
+            Err(refused)
+        }
+    }
 }
 
 // A line of a client's script.
@@ -108,7 +142,10 @@ pub fn client_call_act(
                 client_repeat_line(alloc, client, repeat, word, words)?,
             ))
         }
-        _ => Err(Fault(OutOfPlace)),
+        _ => {
+            drop(place);
+            Err(Fault(OutOfPlace))
+        }
     }
 }
 
@@ -121,10 +158,27 @@ pub fn client_closed(
 ) -> Result<(Used, Place), LineRefused>
     ensures { Gives (λ next. next) result (client_closed used client repeat) }
 {
-    let after = after_repeat(used, &repeat)?;
     let mut client = client;
-    push_repeated(&mut client.script, repeat.times, &repeat.body)?;
-    Ok((after, Place::Client(client)))
+    match after_repeat(used, &repeat) {
+        Ok(after) => {
+            match push_repeated(&mut client.script, repeat.times, &repeat.body) {
+                Ok(()) => {
+                    drop(repeat);
+                    Ok((after, Place::Client(client)))
+                }
+                Err(_) => {
+                    drop(client);
+                    drop(repeat);
+                    Err(LineRefused::NoMemory)
+                }
+            }
+        }
+        Err(refused) => {
+            drop(client);
+            drop(repeat);
+            Err(refused)
+        }
+    }
 }
 
 fn new_client(alloc: Global, name: Bytes) -> Place
@@ -137,6 +191,33 @@ fn new_client(alloc: Global, name: Bytes) -> Place
     })
 }
 
+fn client_last(
+    alloc: Global,
+    before: Registered,
+    name: &[u8],
+) -> Result<(Registered, Place), NoMemory>
+    ensures { IfOk result (λ next. next ≡ (record before { noted = record before.noted { client_names = before.noted.client_names ++ name.now ∷ [] } }, new_client name.now)) }
+{
+    let mut before = before;
+    let Ok(named) = Bytes::from_slice(alloc, name) else {
+        drop(before);
+        return Err(NoMemory);
+    };
+    let Ok(noted) = Bytes::from_slice(alloc, name) else {
+        drop(before);
+        drop(named);
+        return Err(NoMemory);
+    };
+    match before.noted.client_names.push(noted) {
+        Ok(()) => Ok((before, new_client(alloc, named))),
+        Err(_) => {
+            drop(before);
+            drop(named);
+            Err(NoMemory)
+        }
+    }
+}
+
 // The client with this name comes last.
 #[tactic(auto, unfolding(crate::specs::Reading::with_client))]
 fn with_client(
@@ -147,27 +228,38 @@ fn with_client(
 ) -> Result<(Registered, Place), LineRefused>
     ensures { Gives (λ next. next) result (with_client before last name.now) }
 {
+    if is_named(&before.noted, name) {
+        drop(before);
+        drop(last);
+        return Err(Fault(NameTaken));
+    }
+    if before.noted.client_names.len() >= 8 {
+        drop(before);
+        drop(last);
+        return Err(Fault(TooMany));
+    }
     let Registered {
         apps,
         clients,
         noted,
     } = before;
-    let mut noted = noted;
-    if is_named(&noted, name) {
-        return Err(Fault(NameTaken));
+    match settled(apps, clients, last) {
+        Ok((apps, clients)) => {
+            let before = Registered {
+                apps,
+                clients,
+                noted,
+            };
+            match client_last(alloc, before, name) {
+                Ok(next) => Ok(next),
+                Err(_) => Err(LineRefused::NoMemory),
+            }
+        }
+        Err(_) => {
+            drop(noted);
+            Err(LineRefused::NoMemory)
+        }
     }
-    if noted.client_names.len() >= 8 {
-        return Err(Fault(TooMany));
-    }
-    let (apps, clients) = settled(apps, clients, last)?;
-    noted.client_names.push(Bytes::from_slice(alloc, name)?)?;
-    let client = new_client(alloc, Bytes::from_slice(alloc, name)?);
-    let after = Registered {
-        apps,
-        clients,
-        noted,
-    };
-    Ok((after, client))
 }
 
 fn lawful_client(
@@ -209,8 +301,14 @@ fn named_client(
     ensures exact { Gives (λ next. next) result (named_client before last (map (λ word. word.now) words.now)) }
     ensures kept { (used : Used) → IsLawful before last used → IfOk result (λ next. IsLawful next.0 next.1 used) }
 {
-    let name = client_name(words)?;
-    Ok(lawful_client(alloc, before, last, name)?)
+    match client_name(words) {
+        Ok(name) => lawful_client(alloc, before, last, name),
+        Err(refused) => {
+            drop(before);
+            drop(last);
+            Err(refused)
+        }
+    }
 }
 
 // `client NAME`
@@ -225,6 +323,8 @@ pub fn client_act(
     ensures kept { (used : Used) → IsLawful before last used → IfOk result (λ next. IsLawful next.0 next.1 used) }
 {
     if is_in_repeat(&last) {
+        drop(before);
+        drop(last);
         return Err(Fault(OutOfPlace));
     }
     Ok(named_client(alloc, before, last, words)?)

@@ -26,10 +26,21 @@ use std::mem;
 fn with_command(used: Used, app: OpenApp, command: Command) -> Result<(Used, Place), LineRefused>
     ensures { Gives (λ next. next) result (with_command used app command) }
 {
-    let after = after_command(used, &command)?;
     let mut app = app;
-    app.script.push(command)?;
-    Ok((after, Place::App(app)))
+    match after_command(used, &command) {
+        Ok(after) => match app.script.push(command) {
+            Ok(()) => Ok((after, Place::App(app))),
+            Err(_) => {
+                drop(app);
+                Err(LineRefused::NoMemory)
+            }
+        },
+        Err(refused) => {
+            drop(app);
+            drop(command);
+            Err(refused)
+        }
+    }
 }
 
 // A line of the last application's script.
@@ -45,6 +56,7 @@ fn app_line(
     ensures kept { (before : Registered) → IsLawful before (place.App app) used → IfOk result (λ next. IsLawful before next.1 next.0) }
 {
     if !app.has_thread {
+        drop(app);
         return Err(Fault(OutOfPlace));
     }
     let OpenApp {
@@ -81,14 +93,37 @@ fn repeat_line(
     ensures kept { (before : Registered) → (used : Used) → IsLawful before (place.Repeat app repeat) used → IfOk result (λ next. IsLawful before next used) }
 {
     if repeat.is_past {
-        command_line(alloc, Items::new(alloc), word, words)?;
-        return Ok(Place::Repeat(app, repeat));
+        return match command_line(alloc, Items::new(alloc), word, words) {
+            Ok(unkept) => {
+                drop(unkept);
+                Ok(Place::Repeat(app, repeat))
+            }
+            Err(refused) => {
+                drop(app);
+                drop(repeat);
+                Err(refused)
+            }
+        };
     }
     let mut app = app;
     let names = mem::replace(&mut app.names, Items::new(alloc));
-    let (names, command) = command_line(alloc, names, word, words)?;
-    app.names = names;
-    Ok(Place::Repeat(app, extended(repeat, command)?))
+    match command_line(alloc, names, word, words) {
+        Ok((names, command)) => {
+            drop(mem::replace(&mut app.names, names));
+            match extended(repeat, command) {
+                Ok(repeat) => Ok(Place::Repeat(app, repeat)),
+                Err(_) => {
+                    drop(app);
+                    Err(LineRefused::NoMemory)
+                }
+            }
+        }
+        Err(refused) => {
+            drop(app);
+            drop(repeat);
+            Err(refused)
+        }
+    }
 }
 
 // A line of a thread's script.
@@ -106,7 +141,10 @@ pub fn call_act(
     match place {
         Place::App(app) => Ok(app_line(alloc, used, app, word, words)?),
         Place::Repeat(app, repeat) => Ok((used, repeat_line(alloc, app, repeat, word, words)?)),
-        _ => Err(Fault(OutOfPlace)),
+        _ => {
+            drop(place);
+            Err(Fault(OutOfPlace))
+        }
     }
 }
 
@@ -121,11 +159,15 @@ fn next_thread(alloc: Global, app: OpenApp) -> Result<OpenApp, LineRefused>
         return Ok(app);
     }
     if app.threads.len() >= 3 {
+        drop(app);
         return Err(Fault(TooMany));
     }
     let script = mem::replace(&mut app.script, Script::new(alloc));
-    app.threads.push(script)?;
-    app.names = Items::new(alloc);
+    if let Err(_) = app.threads.push(script) {
+        drop(app);
+        return Err(LineRefused::NoMemory);
+    }
+    drop(mem::replace(&mut app.names, Items::new(alloc)));
     Ok(app)
 }
 
@@ -135,9 +177,11 @@ pub fn thread_act(alloc: Global, place: Place, words: &[&[u8]]) -> Result<Place,
     ensures kept { (before : Registered) → (used : Used) → IsLawful before place used → IfOk result (λ next. IsLawful before next used) }
 {
     let Place::App(app) = place else {
+        drop(place);
         return Err(Fault(OutOfPlace));
     };
     if !words.is_empty() {
+        drop(app);
         return Err(Fault(BadWords));
     }
     let next = next_thread(alloc, app)?;
@@ -167,16 +211,28 @@ pub fn repeat_act(
     match place {
         Place::App(app) => {
             if !app.has_thread {
+                drop(app);
                 return Err(Fault(OutOfPlace));
             }
-            let times = times_in(words)?;
-            Ok(Place::Repeat(app, begun(alloc, line, times)))
+            match times_in(words) {
+                Ok(times) => Ok(Place::Repeat(app, begun(alloc, line, times))),
+                Err(refused) => {
+                    drop(app);
+                    Err(refused)
+                }
+            }
         }
-        Place::Client(client) => {
-            let times = times_in(words)?;
-            Ok(Place::ClientRepeat(client, begun(alloc, line, times)))
+        Place::Client(client) => match times_in(words) {
+            Ok(times) => Ok(Place::ClientRepeat(client, begun(alloc, line, times))),
+            Err(refused) => {
+                drop(client);
+                Err(refused)
+            }
+        },
+        _ => {
+            drop(place);
+            Err(Fault(OutOfPlace))
         }
-        _ => Err(Fault(OutOfPlace)),
     }
 }
 
@@ -185,10 +241,25 @@ pub fn repeat_act(
 fn closed(used: Used, app: OpenApp, repeat: Repeat) -> Result<(Used, Place), LineRefused>
     ensures { Gives (λ next. next) result (closed used app repeat) }
 {
-    let after = after_repeat(used, &repeat)?;
     let mut app = app;
-    push_repeated(&mut app.script, repeat.times, &repeat.body)?;
-    Ok((after, Place::App(app)))
+    match after_repeat(used, &repeat) {
+        Ok(after) => {
+            let pushed = push_repeated(&mut app.script, repeat.times, &repeat.body);
+            drop(repeat);
+            match pushed {
+                Ok(()) => Ok((after, Place::App(app))),
+                Err(_) => {
+                    drop(app);
+                    Err(LineRefused::NoMemory)
+                }
+            }
+        }
+        Err(refused) => {
+            drop(app);
+            drop(repeat);
+            Err(refused)
+        }
+    }
 }
 
 #[tactic(auto, unfolding(crate::specs::Reading::end_act))]
@@ -199,16 +270,23 @@ pub fn end_act(used: Used, place: Place, words: &[&[u8]]) -> Result<(Used, Place
     match place {
         Place::Repeat(app, repeat) => {
             if !words.is_empty() {
+                drop(app);
+                drop(repeat);
                 return Err(Fault(BadWords));
             }
             closed(used, app, repeat)
         }
         Place::ClientRepeat(client, repeat) => {
             if !words.is_empty() {
+                drop(client);
+                drop(repeat);
                 return Err(Fault(BadWords));
             }
             client_closed(used, client, repeat)
         }
-        _ => Err(Fault(OutOfPlace)),
+        _ => {
+            drop(place);
+            Err(Fault(OutOfPlace))
+        }
     }
 }

@@ -36,10 +36,14 @@ pub fn extended(repeat: Repeat, command: Command) -> Result<Repeat, NoMemory>
         payload: repeat.payload.saturating_add(payload_of(&command.call)),
     };
     if !has_lawful_registers(&command) || !is_within(&after) {
+        drop(command);
         repeat.is_past = true;
         return Ok(repeat);
     }
-    repeat.body.push(command)?;
+    if let Err(_) = repeat.body.push(command) {
+        drop(repeat);
+        return Err(NoMemory);
+    }
     repeat.payload = after.payload;
     Ok(repeat)
 }

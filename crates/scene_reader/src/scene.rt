@@ -43,7 +43,13 @@ fn part_act(
     ensures kept { (used : Used) → IsLawful before last used → IfOk result (λ next. IsLawful next.0 next.1 used) }
 {
     match word {
-        PartWord::Queues => Ok((queues_act(before, &last, words)?, last)),
+        PartWord::Queues => match queues_act(before, &last, words) {
+            Ok(before) => Ok((before, last)),
+            Err(refused) => {
+                drop(last);
+                Err(refused)
+            }
+        },
         PartWord::App => app_act(alloc, before, last, text, words),
         PartWord::Client => client_act(alloc, before, last, words),
         PartWord::Turns => turns_act(alloc, before, last, words),
@@ -92,7 +98,11 @@ fn word_act(
         used,
     } = reading;
     match word {
-        LineWord::Scene => Err(Fault(OutOfPlace)),
+        LineWord::Scene => {
+            drop(place);
+            drop(before);
+            Err(Fault(OutOfPlace))
+        }
         LineWord::Part(word) => {
             let (before, place) = part_act(alloc, before, place, text, word, words)?;
             Ok(Reading {
@@ -139,6 +149,7 @@ fn first_word(
         return Ok(reading);
     };
     let Some(word) = line_word(first) else {
+        drop(reading);
         return Err(Fault(UnknownWord));
     };
     word_act(alloc, reading, at, text, word, rest)
@@ -164,7 +175,9 @@ fn words_act(
     } = reading;
     match place {
         Place::Start => {
+            drop(place);
             if !is_header(words) {
+                drop(before);
                 return Err(Fault(NoHeader));
             }
             Ok(Reading {
@@ -175,7 +188,11 @@ fn words_act(
         }
         Place::Turns(turns) => {
             let mut turns = turns;
-            with_turns(&mut turns, words)?;
+            if let Err(refused) = with_turns(&mut turns, words) {
+                drop(turns);
+                drop(before);
+                return Err(refused);
+            }
             Ok(Reading {
                 place: Place::Turns(turns),
                 before,
@@ -201,14 +218,25 @@ fn line_act(alloc: Global, reading: Reading, at: u32, text: &[u8]) -> Result<Rea
     ensures exact { Gives (λ next. next) result (line_act reading at text.now) }
     ensures kept { IsLawfulReading reading → IfOk result IsLawfulReading }
 {
-    let words = words_of(alloc, text)?;
+    let words = match words_of(alloc, text) {
+        Ok(words) => words,
+        Err(_) => {
+            drop(reading);
+            return Err(LineRefused::NoMemory);
+        }
+    };
     if is_skipped(&words) {
+        drop(words);
         return Ok(reading);
     }
     if !is_text(text) {
+        drop(words);
+        drop(reading);
         return Err(Fault(BadByte));
     }
-    words_act(alloc, reading, at, text, &words)
+    let next = words_act(alloc, reading, at, text, &words);
+    drop(words);
+    next
 }
 
 fn nothing_noted(alloc: Global) -> Noted
@@ -336,7 +364,9 @@ fn whole(before: Registered, last: Place, turns: TurnList) -> Result<Scene, Scen
         noted,
     } = before;
     let queue = noted.queue.unwrap_or(16);
+    drop(noted);
     let Ok((apps, clients)) = settled(apps, clients, last) else {
+        drop(turns);
         return Err(SceneRefused::NoMemory);
     };
     Ok(Scene {
@@ -360,14 +390,32 @@ fn ended(alloc: Global, reading: Reading) -> Result<Scene, SceneRefused>
     ensures { IsScene result (ended reading reading.place) }
 {
     let Reading { place, before, .. } = reading;
-    let none = TurnList::new(alloc);
     match place {
-        Place::Start => Err(fault(NoHeader, 0)),
-        Place::Repeat(_app, repeat) => Err(fault(OpenRepeat, repeat.line)),
-        Place::ClientRepeat(_client, repeat) => Err(fault(OpenRepeat, repeat.line)),
-        Place::Outside => whole(before, Place::Outside, none),
-        Place::App(app) => whole(before, Place::App(app), none),
-        Place::Client(client) => whole(before, Place::Client(client), none),
+        Place::Start => {
+            drop(place);
+            drop(before);
+            Err(fault(NoHeader, 0))
+        }
+        Place::Repeat(app, repeat) => {
+            let line = repeat.line;
+            drop(app);
+            drop(repeat);
+            drop(before);
+            Err(fault(OpenRepeat, line))
+        }
+        Place::ClientRepeat(client, repeat) => {
+            let line = repeat.line;
+            drop(client);
+            drop(repeat);
+            drop(before);
+            Err(fault(OpenRepeat, line))
+        }
+        Place::Outside => {
+            drop(place);
+            whole(before, Place::Outside, TurnList::new(alloc))
+        }
+        Place::App(app) => whole(before, Place::App(app), TurnList::new(alloc)),
+        Place::Client(client) => whole(before, Place::Client(client), TurnList::new(alloc)),
         Place::Turns(turns) => whole(before, Place::Outside, turns),
     }
 }

@@ -54,9 +54,13 @@ pub fn turns_act(
     ensures kept { (used : Used) → IsLawful before last used → IfOk result (λ next. IsLawful next.0 next.1 used) }
 {
     if is_in_repeat(&last) {
+        drop(before);
+        drop(last);
         return Err(Fault(OutOfPlace));
     }
     if !words.is_empty() {
+        drop(before);
+        drop(last);
         return Err(Fault(BadWords));
     }
     let Registered {
@@ -64,11 +68,18 @@ pub fn turns_act(
         clients,
         noted,
     } = before;
-    let (apps, clients) = settled(apps, clients, last)?;
-    let after = Registered {
-        apps,
-        clients,
-        noted,
-    };
-    Ok((after, Place::Turns(TurnList::new(alloc))))
+    match settled(apps, clients, last) {
+        Ok((apps, clients)) => {
+            let after = Registered {
+                apps,
+                clients,
+                noted,
+            };
+            Ok((after, Place::Turns(TurnList::new(alloc))))
+        }
+        Err(_) => {
+            drop(noted);
+            Err(LineRefused::NoMemory)
+        }
+    }
 }

@@ -120,8 +120,15 @@ fn run_serially<C: IpcKernel + Drop, K: Sink>(
     ensures endless { result ≡ Status.RunTooLong → IsEndless Order.Serial scene.now }
 {
     match serial(alloc, kernel, scene) {
-        Ok(logged) => tell_report(alloc, form, scene, &logged, sink),
-        Err(RunRefused::TooLong(_)) => tell_too_long(sink),
+        Ok(logged) => {
+            let told = tell_report(alloc, form, scene, &logged, sink);
+            drop(logged);
+            told
+        }
+        Err(RunRefused::TooLong(cut)) => {
+            drop(cut);
+            tell_too_long(sink)
+        }
         Err(RunRefused::NoMemory) => Status::NoMemory,
     }
 }
@@ -142,7 +149,11 @@ fn run_turns<C: IpcKernel + Drop, K: Sink>(
     ensures endless { result ≡ Status.RunTooLong → IsEndless Order.Replay scene.now }
 {
     match replay(alloc, kernel, scene) {
-        Ok(logged) => tell_report(alloc, form, scene, &logged, sink),
+        Ok(logged) => {
+            let told = tell_report(alloc, form, scene, &logged, sink);
+            drop(logged);
+            told
+        }
         Err(ReplayRefused::Turn(turn)) => tell_turn(alloc, turn, sink),
         Err(ReplayRefused::NoMemory) => Status::NoMemory,
     }

@@ -132,7 +132,11 @@ fn answer<R: Threads + Wait + Sync, K: Sink, H: Hook + Sync>(
     ensures tells { TellsSome (IsDue (Command.Run form) input.now) (K.written sink.old) (K.written sink.new) (K.faults sink.old) (K.faults sink.new) result }
 {
     match read_scene(alloc, input) {
-        Ok(scene) => run_scene(rt, alloc, form, &scene, sink, hook),
+        Ok(scene) => {
+            let told = run_scene(rt, alloc, form, &scene, sink, hook);
+            drop(scene);
+            told
+        }
         Err(SceneRefused::Fault(fault)) => tell_fault(alloc, &fault, sink),
         Err(SceneRefused::NoMemory) => Status::NoMemory,
     }
@@ -153,8 +157,15 @@ fn run_scene<R: Threads + Wait + Sync, K: Sink, H: Hook + Sync>(
         return Status::NoMemory;
     };
     match threads(rt, alloc, kernel, scene, hook) {
-        Ok(logged) => tell_report(alloc, form, scene, &logged, sink),
-        Err(RunRefused::TooLong(_)) => tell_too_long(sink),
+        Ok(logged) => {
+            let told = tell_report(alloc, form, scene, &logged, sink);
+            drop(logged);
+            told
+        }
+        Err(RunRefused::TooLong(cut)) => {
+            drop(cut);
+            tell_too_long(sink)
+        }
         Err(RunRefused::NoMemory) => Status::NoMemory,
     }
 }

@@ -13,13 +13,13 @@ returns-in-Unlawful-clause-refused g c =
     let turns : c.as_slice-turns.result.now ≡ c.args.scene.now.turns = c.as_slice-turns.ensures ∙ ap (λ (s : SceneValue). s.turns) c.scene.view_is in
     replay_refused c.args.scene.now c.loop-at.at (listed_is c.args.scene.now c.in_ok-shared.shared _ c.in_ok-shared.ensures.origin c.in_ok-shared.ensures.history
     (subst (λ (ts : List Turn). run_from step c.in_ok-shared.shared.origin.scripts 0 (run_told c.in_ok-shared.shared) ts ≡ refused c.loop-at.at) turns
-    (listed_refused c.as_slice-turns.result.now c.in_ok-shared.shared c.loop-at.shared c.turn.new.self c.loop-at.at _ (turn.Actor 0) c.in_ok-turn.field-0 c.in_ok-turn.ensures.taken c.in-Unlawful.is (omega arith) refl c.loop-at.invariant.left)))
+    (listed_refused c.as_slice-turns.result.now c.in_ok-shared.shared c.loop-at.shared c.turn.new.self c.loop-at.at _ (turn.Actor 0) c.in-Ok.taken c.in-Ok.ensures.taken c.in-Unlawful.is (omega arith) refl c.loop-at.invariant.left)))
 
 pub loop-at-preserved : goal.loop-at-preserved
 loop-at-preserved g c = record {
   origin = c.turn.ensures.origin ∙ c.loop-at.invariant.origin;
-  count = listed_grows c.loop-at.shared c.turn.new.self _ c.loop-at.at c.in_ok-turn.field-0 c.in_ok-turn.ensures.taken c.in-Stepped.is c.loop-at.invariant.count;
-  left = listed_goes c.as_slice-turns.result.now c.in_ok-shared.shared c.loop-at.shared c.turn.new.self c.loop-at.at _ (turn.Actor 0) c.in_ok-turn.field-0 c.turn.ensures.origin c.in_ok-turn.ensures.taken c.in-Stepped.is (omega arith) refl c.loop-at.invariant.left;
+  count = listed_grows c.loop-at.shared c.turn.new.self _ c.loop-at.at c.in-Ok.taken c.in-Ok.ensures.taken c.in-Stepped.is c.loop-at.invariant.count;
+  left = listed_goes c.as_slice-turns.result.now c.in_ok-shared.shared c.loop-at.shared c.turn.new.self c.loop-at.at _ (turn.Actor 0) c.in-Ok.taken c.turn.ensures.origin c.in-Ok.ensures.taken c.in-Stepped.is (omega arith) refl c.loop-at.invariant.left;
 }
 
 pub returns-then-not-is_over-clause-refused : goal.returns-then-not-is_over-clause-refused
