@@ -1,0 +1,4 @@
+//! Laws of how objects fit together: who is whose peer, what is pending, and what messages carry.
+#![tactic(auto)]
+
+pub mod fits;
