@@ -1,4 +1,3 @@
-pub mod Bridged
 pub mod Found
 pub mod Histories
 pub mod Mapped

@@ -18,7 +18,7 @@ use Rattle.kernel_types.specs.Clients.{Acted, client_cancelled, client_changed}
 use Rattle.kernel_types.specs.Device.{DeviceStep, device_step}
 use Rattle.kernel_types.specs.Limits.{Room, full_room, room_of_call}
 use Rattle.kernel_types.specs.Step.{Stepped, beside_core, client_begin, client_number, client_resume, device_stepped, idle, idle_lawful, in_world, is_built_event, is_thread, full_step, next_deadline, step, world_idle}
-use Rattle.kernel_laws.proofs.Bridged.{DeviceKeepsIf, any_change, device_keeps}
+use Rattle.step_laws.proofs.Bridged.{DeviceKeepsIf, any_change, device_keeps}
 use Rattle.kernel_laws.proofs.Mapped.{map_at_same, mapped_same}
 use Rattle.kernel_laws.proofs.Worlds.{ActsIf, begin_acts, nobody, resume_acts}
 use Rattle.kernel_values.specs.declared.scene.Manifest.{Manifest}

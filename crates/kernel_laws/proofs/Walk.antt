@@ -66,7 +66,7 @@ use Rattle.kernel_values.specs.declared.state.Connector.TheVariants as connector
 use Rattle.kernel_values.specs.declared.call.Call.TheVariants as call
 use Rattle.kernel_values.specs.declared.entry.Event.TheVariants as event
 use Rattle.kernel_values.specs.declared.state.Activity.TheVariants as activity
-use Rattle.kernel_laws.proofs.Bridged.{OfDevice, DeviceKeepsIf, device_keeps}
+use Rattle.step_laws.proofs.Bridged.{OfDevice, DeviceKeepsIf, device_keeps}
 use Rattle.kernel_laws.proofs.Tales.{IsFresh}
 use Rattle.kernel_laws.proofs.Tells.{Quiet, queue_in, quiet_end, quiet_port, quiet_set, quiet_memory}
 

@@ -22,7 +22,7 @@ use Rattle.kernel_types.specs.Outcome.{Outcome}
 use Rattle.kernel_types.specs.Ports.{admits, is_waiting}
 use Rattle.kernel_types.specs.Reach.{is_in}
 use Rattle.kernel_types.specs.Sweep.{cut_end, is_live, is_marked, kept, pruned, pruned_port, reached, sweep}
-use Rattle.kernel_laws.proofs.Bridged.{OfDevice}
+use Rattle.step_laws.proofs.Bridged.{OfDevice}
 use Rattle.kernel_laws.proofs.Within.{Fine, Within, WithinCore, end_within, keeps_end, keeps_port, within_changed, within_filtered, within_mapped}
 use Rattle.kernel_laws.proofs.WithinChannels.{deliver_fine, get_message_fine, put_from_fine}
 use Rattle.kernel_laws.proofs.WithinConnections.{WayWithin, pending_within, started_within, waiting_within, way_within}

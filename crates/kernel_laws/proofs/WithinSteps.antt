@@ -25,7 +25,7 @@ use Rattle.kernel_types.specs.Limits.{FitsIn, Room, full_room, no_room, path_roo
 use Rattle.kernel_types.specs.Outcome.{Outcome}
 use Rattle.kernel_types.specs.Step.{Stepped, beside_core, client_begin, client_number, client_resume, client_resume_of, client_status, device_stepped, full_step, idle, idle_lawful, idle_until, in_world, is_built_event, is_thread, next_deadline, statuses, step, world_idle}
 use Rattle.kernel_types.specs.Waits.{end_of_wait}
-use Rattle.kernel_laws.proofs.Bridged.{DeviceKeepsIf, device_keeps}
+use Rattle.step_laws.proofs.Bridged.{DeviceKeepsIf, device_keeps}
 use Rattle.kernel_laws.proofs.Within.{WithinCore}
 use Rattle.kernel_laws.proofs.WithinBridge.{swept_within, within_after, within_device}
 use Rattle.kernel_laws.proofs.WithinOthers.{cookie_fine, close_fine, dup_fine, set_fine, add_fine, del_fine, mod_fine, memref_fine, mread_fine, mwrite_fine, wait_fine, wait_any_fine, exit_fine, finish_fine}

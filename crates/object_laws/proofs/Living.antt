@@ -37,7 +37,7 @@ use Rattle.kernel_types.specs.Step.{Stepped, beside_core, client_begin, client_n
 use Rattle.kernel_types.specs.Sweep.{sweep}
 use Rattle.kernel_types.specs.Threads.{running_activity, with_activity}
 use Rattle.kernel_types.specs.Waits.{end_of_wait}
-use Rattle.kernel_laws.proofs.Bridged.{DeviceKeepsIf, OfDevice, device_keeps}
+use Rattle.step_laws.proofs.Bridged.{DeviceKeepsIf, OfDevice, device_keeps}
 use Rattle.set_laws.proofs.BridgeSteps.{IfCome, IfMade, IfStepped}
 use Rattle.object_laws.proofs.Sweeping.{swept_iff}
 

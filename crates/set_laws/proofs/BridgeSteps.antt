@@ -33,7 +33,7 @@ use Rattle.kernel_types.specs.Outcome.{Outcome, gives_with, refuses, sent_seq}
 use Rattle.kernel_types.specs.Ports.{admits}
 use Rattle.kernel_types.specs.Step.{Stepped, beside_core, client_begin, client_number, client_resume, device_stepped, full_step, idle, idle_lawful, in_world, is_built_event, is_thread, next_deadline, step}
 use Rattle.kernel_types.specs.Sweep.{sweep}
-use Rattle.kernel_laws.proofs.Bridged.{DeviceKeepsIf, OfDevice, device_keeps}
+use Rattle.step_laws.proofs.Bridged.{DeviceKeepsIf, OfDevice, device_keeps}
 use Rattle.kernel_laws.proofs.Within.{all_map_at}
 use Rattle.set_laws.proofs.Lists.{all_appended, all_filtered}
 use Rattle.set_laws.proofs.Naming.{Below, MessagesBelow}
