@@ -32,7 +32,7 @@ pub record Invariant : Type 1 where
   pub swept : (c : CoreState) → holds c → holds (sweep c)
 
 module _ (L : Invariant) where
-  change_keeps : (c : CoreState) → L.holds c → (change : CoreChange c) → L.holds (after_core c change)
+  pub change_keeps : (c : CoreState) → L.holds c → (change : CoreChange c) → L.holds (after_core c change)
   change_keeps c k (by_small by made change) = L.small by c k made change
   change_keeps c k (by_call app thread asked said change) = L.call app thread asked said c k change
   change_keeps c k (wait_over thread start found wait there waited) = L.resumed thread c k
