@@ -259,14 +259,15 @@ ends_swept s c fit ranked there named is =
 
 -- Whatever the order.
 
-left_names : (m : List ℕ) (c : CoreState) (object : ℕ) → 0 < names_of (naming (kept m (pruned m c))) object → 0 < names_of (naming c) object
-left_names m c object some =
-    let u : CoreState = pruned m c in
+-- what is left named was named, by whatever marks
+pub left_names : (p m : List ℕ) (c : CoreState) (object : ℕ) → 0 < names_of (naming (kept m (pruned p c))) object → 0 < names_of (naming c) object
+left_names p m c object some =
+    let u : CoreState = pruned p c in
     let name : (n : Name) × Among n (naming (kept m u)) × (n.object ≡ object) = someone (naming (kept m u)) object some in
     let go : (holder : Option ℕ) (named : ℕ) → Among (record { holder = holder; object = named }) (naming (kept m u)) → 0 < names_of (naming c) named =
     λ holder named among. elim holder as (λ v. Among (record { holder = v; object = named }) (naming (kept m u)) → 0 < names_of (naming c) named) [
-      | None ↦ (λ a. counted_in (naming c) (root named) (root_prune m c named (root_same m u named a)))
-      | Some by ↦ (λ a. counted_in (naming c) (held_by by named) (names_pruned m c by named (names_kept m u by named a)))
+      | None ↦ (λ a. counted_in (naming c) (root named) (root_prune p c named (root_same m u named a)))
+      | Some by ↦ (λ a. counted_in (naming c) (held_by by named) (names_pruned p c by named (names_kept m u by named a)))
     ] among in
     subst (λ n. 0 < names_of (naming c) n) name.2 (go name.0.holder name.0.object name.1)
 
@@ -274,7 +275,7 @@ dropped_there : (c : CoreState) (x : ℕ) → Fit c → NamedThere c → names_o
 dropped_there c x fit there none =
     let m : List ℕ = filter (is_other x) (ids c.objects) in
     let left : NamedThere (kept m (pruned m c)) = λ object some.
-    let named : 0 < names_of (naming c) object = left_names m c object some in
+    let named : 0 < names_of (naming c) object = left_names m m c object some in
     let was : is_there c.objects object ≡ true = there object named in
     let P : Bool → Type 0 = λ b. (object == x) ≡ b → not b ≡ true in
     let go : (b : Bool) → P b = λ b. elim b as (λ v. P v) [

@@ -11,3 +11,5 @@ pub mod Publishing
 pub mod Sweeping
 pub mod Ranking
 pub mod Witness
+pub mod Steps
+pub mod Mutual

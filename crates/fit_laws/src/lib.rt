@@ -2,3 +2,4 @@
 #![tactic(auto)]
 
 pub mod fits;
+pub mod peers;
