@@ -145,7 +145,7 @@ module _ (objects : List Object) (set : ℕ) (m : Member) where
         | inr new ↦ absurd (unreached objects m.object set outside (subst (λ (n : ℕ). Reached entries n) (sym new.0) reached))
       ]
 
-  chain_is_short : HasShortChains objects → IsSet objects set → is_or_contains objects m.object set ≡ false → depth_above 8 objects set + depth_below 8 objects m.object ≤ 8
+  pub chain_is_short : HasShortChains objects → IsSet objects set → is_or_contains objects m.object set ≡ false → depth_above 8 objects set + depth_below 8 objects m.object ≤ 8
       → (id : ℕ) (holders sets : List ℕ) → Climb objects id holders → ChainFrom after id sets → length holders + length (id ∷ sets) ≤ 8
   chain_is_short short is outside few id holders [] climb chain = joined objects short id holders [] climb (set_before id chain)
   chain_is_short short is outside few id holders (next ∷ sets) climb chain =
@@ -162,7 +162,7 @@ module _ (objects : List Object) (set : ℕ) (m : Member) where
             omega (arith, above, below, few)
       ]
 
-measured : (objects : List Object) (set object : ℕ) → nat_lt chain_limit (chain_through objects set object) ≡ false → depth_above 8 objects set + depth_below 8 objects object ≤ 8
+pub measured : (objects : List Object) (set object : ℕ) → nat_lt chain_limit (chain_through objects set object) ≡ false → depth_above 8 objects set + depth_below 8 objects object ≤ 8
 unfolding chain_limit chain_through
 measured objects set object is = grind (arith, tests)
 
