@@ -33,11 +33,11 @@ Nothing = Unit {0}
 
 -- Rising numbers.
 
-lower : (low from : ℕ) (objects : List Object) (high : ℕ) → low ≤ from → RisesFrom from objects high → RisesFrom low objects high
+pub lower : (low from : ℕ) (objects : List Object) (high : ℕ) → low ≤ from → RisesFrom from objects high → RisesFrom low objects high
 lower low from [] high le rises = omega arith
 lower low from (object ∷ objects) high le rises = (omega (arith, rises.0), rises.1)
 
-rises_changed : (f : Body → Body) (low : ℕ) (objects : List Object) (high id : ℕ) → RisesFrom low objects high → RisesFrom low (changed f objects id) high
+pub rises_changed : (f : Body → Body) (low : ℕ) (objects : List Object) (high id : ℕ) → RisesFrom low objects high → RisesFrom low (changed f objects id) high
 rises_changed f low [] high id rises = rises
 rises_changed f low (object ∷ objects) high id rises =
     subst (λ os. RisesFrom low os high) (sym (changed_cons f object objects id))
@@ -46,7 +46,7 @@ rises_changed f low (object ∷ objects) high id rises =
       | false ↦ (rises.0, rises_changed f (object.id + 1) objects high id rises.1)
     ])
 
-rises_mapped : (h : Object → Object) → ((object : Object) → (h object).id ≡ object.id) → (low : ℕ) (objects : List Object) (high : ℕ) → RisesFrom low objects high
+pub rises_mapped : (h : Object → Object) → ((object : Object) → (h object).id ≡ object.id) → (low : ℕ) (objects : List Object) (high : ℕ) → RisesFrom low objects high
     → RisesFrom low (map h objects) high
 rises_mapped h keeps low [] high rises = rises
 rises_mapped h keeps low (object ∷ objects) high rises = (
@@ -54,7 +54,7 @@ rises_mapped h keeps low (object ∷ objects) high rises = (
   subst (λ (n : ℕ). RisesFrom (n + 1) (map h objects) high) (sym (keeps object)) (rises_mapped h keeps (object.id + 1) objects high rises.1),
 )
 
-rises_filtered : (p : Object → Bool) (low : ℕ) (objects : List Object) (high : ℕ) → RisesFrom low objects high → RisesFrom low (filter p objects) high
+pub rises_filtered : (p : Object → Bool) (low : ℕ) (objects : List Object) (high : ℕ) → RisesFrom low objects high → RisesFrom low (filter p objects) high
 rises_filtered p low [] high rises = rises
 rises_filtered p low (object ∷ objects) high rises =
     let rest : RisesFrom (object.id + 1) (filter p objects) high = rises_filtered p (object.id + 1) objects high rises.1 in
@@ -63,14 +63,14 @@ rises_filtered p low (object ∷ objects) high rises =
       | false ↦ lower low (object.id + 1) (filter p objects) high (omega (arith, rises.0)) rest
     ]
 
-rises_appended : (low : ℕ) (objects : List Object) (middle : ℕ) (more : List Object) (high : ℕ) → RisesFrom low objects middle → RisesFrom middle more high
+pub rises_appended : (low : ℕ) (objects : List Object) (middle : ℕ) (more : List Object) (high : ℕ) → RisesFrom low objects middle → RisesFrom middle more high
     → RisesFrom low (objects ++ more) high
 rises_appended low [] middle more high rises others = lower low middle more high rises others
 rises_appended low (object ∷ objects) middle more high rises others = (rises.0, rises_appended (object.id + 1) objects middle more high rises.1 others)
 
 -- the ends that wait for a port have rising numbers too, so the k-th of their server ends has the k-th number
 
-abbrev Ascends : ℕ → List ℕ → Type 0
+abbrev pub Ascends : ℕ → List ℕ → Type 0
 Ascends low [] = Unit {0}
 Ascends low (n ∷ ns) = (low ≤ n) × Ascends (n + 1) ns
 
@@ -78,7 +78,7 @@ lower_numbers : (low from : ℕ) (ns : List ℕ) → low ≤ from → Ascends fr
 lower_numbers low from [] le up = tt
 lower_numbers low from (n ∷ ns) le up = (omega (arith, up.0), up.1)
 
-admitted_ascend : (p : Object → Bool) (low : ℕ) (objects : List Object) (high : ℕ) → RisesFrom low objects high → Ascends low (map (λ object. object.id) (filter p objects))
+pub admitted_ascend : (p : Object → Bool) (low : ℕ) (objects : List Object) (high : ℕ) → RisesFrom low objects high → Ascends low (map (λ object. object.id) (filter p objects))
 admitted_ascend p low [] high rises = tt
 admitted_ascend p low (object ∷ objects) high rises =
     let rest : Ascends (object.id + 1) (map (λ o. o.id) (filter p objects)) = admitted_ascend p (object.id + 1) objects high rises.1 in
@@ -101,7 +101,7 @@ place_is low x (y ∷ ys) xs up =
     let other : (y == x) ≡ false = grind (arith, tests) in
     ap (λ b. cond (not b) (1 + n) 0) other ∙ omega (arith, place_is (y + 1) x ys xs up.1)
 
-servers_rise : (port : Port) (first low : ℕ) (ys xs : List ℕ) → Ascends low (ys ++ xs) → RisesFrom (first + length ys) (map (new_server port first (ys ++ xs)) xs) (first + length (ys ++ xs))
+pub servers_rise : (port : Port) (first low : ℕ) (ys xs : List ℕ) → Ascends low (ys ++ xs) → RisesFrom (first + length ys) (map (new_server port first (ys ++ xs)) xs) (first + length (ys ++ xs))
 servers_rise port first low ys [] up = omega (arith, ap (λ (ns : List ℕ). length ns) (append-nil ys))
 servers_rise port first low ys (x ∷ xs) up =
     let all : List ℕ = ys ++ x ∷ xs in
