@@ -13,3 +13,4 @@ pub mod Ranking
 pub mod Witness
 pub mod Steps
 pub mod Mutual
+pub mod Ready

@@ -26,7 +26,8 @@ use Rattle.kernel_types.specs.Reports.{reported_end}
 use Rattle.kernel_types.specs.Sweep.{is_live}
 use Rattle.kernel_types.specs.Tables.{entry_at}
 use Rattle.fit_laws.specs.Fitting.{Fitting, IsMated, holds_memory}
-use Rattle.fit_laws.proofs.Looks.{end_at, end_leaves_memory, end_leaves_port, ends_same, memories_same, ports_same, rises_changed}
+use Rattle.fit_laws.proofs.Looks.{end_at, end_leaves_memory, end_leaves_port, ends_same, memories_same, ports_same}
+use Rattle.kernel_laws.proofs.Rising.{rises_changed}
 use Rattle.fit_laws.proofs.Numbers.{fewer_parts, one_more_part}
 use Rattle.fit_laws.proofs.Touching.{IsPart, Side, pending_of, side, touched}
 

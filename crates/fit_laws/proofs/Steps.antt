@@ -38,7 +38,7 @@ use Rattle.fit_laws.proofs.Sweeping.{fit_swept}
 use Rattle.fit_laws.proofs.Witness.{fit_nothing}
 
 -- where objects and the next number stay
-same_fits : (c d : CoreState) → (d.objects ≡ c.objects) × (d.next ≡ c.next) → FittingCore c → FittingCore d
+pub same_fits : (c d : CoreState) → (d.objects ≡ c.objects) × (d.next ≡ c.next) → FittingCore c → FittingCore d
 same_fits c d same k = subst (λ n. Fitting d.objects n) (sym same.1) (subst (λ os. Fitting os c.next) (sym same.0) k)
 
 mark_quiet : (mark : Mark) → IsQuiet (marked_by mark)

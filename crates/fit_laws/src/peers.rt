@@ -6,9 +6,10 @@ ghost use Rattle.kernel_values.specs.declared.entry.Entry.{Entry};
 ghost use Rattle.kernel_values.specs.declared.state.CoreState.{CoreState};
 ghost use Rattle.kernel_types.specs.History.{state_after};
 ghost use Rattle.kernel_types.specs.Opening.{opening};
-ghost use Rattle.step_laws.specs.Walks.{CoreChange, after_core};
+ghost use Rattle.step_laws.specs.Walks.{CoreChange, Row, after_core};
 ghost use Rattle.fit_laws.specs.Fitting.{FittingCore};
 ghost use Rattle.fit_laws.specs.Peers.{HasMutualPeers};
+ghost use Rattle.fit_laws.specs.Sweeps.{BeforeSweeps, IsReady};
 
 /// Every change of which steps are made keeps the objects fitting, so they fit in the middle of a step too.
 pub fn changes_keep_fitting()
@@ -25,4 +26,11 @@ pub fn histories_fit()
 /// and Connecting, and it stands in one pending list, once.
 pub fn peers_are_mutual()
     ensures { (scene : SceneValue) (entries : List Entry) → HasMutualPeers (state_after (opening scene) entries).core }
+{}
+
+/// In every history from an opening state, whatever changes go on from there: before each sweep of them the state meets all that
+/// a sweep by counts asks for. Each step is a row of such changes, so each of its sweeps may be made by counts.
+pub fn sweeps_may_be_made_by_counts()
+    ensures { (scene : SceneValue) (entries : List Entry) (d : CoreState) (row : Row CoreChange after_core (state_after (opening scene) entries).core d)
+        → BeforeSweeps IsReady (state_after (opening scene) entries).core d row }
 {}

@@ -45,7 +45,7 @@ use Rattle.count_laws.proofs.Holding.{counted_in, someone}
 use Rattle.name_laws.proofs.Changes.{NewKnown, bridging_known, call_known, idled_known, running_known, small_known, started_known, unbridged_known}
 use Rattle.name_laws.proofs.Known.{Known, Knows, acted, apart, together, weaker}
 
-abbrev There : List Object → ℕ → Type 0
+abbrev pub There : List Object → ℕ → Type 0
 There objects x = is_there objects x ≡ true
 
 -- An object that is there stays there, but for the sweep.
@@ -164,7 +164,7 @@ all_named P whole known [] within = tt
 all_named P whole known (first ∷ names) within =
     (known first.object (counted_in whole first (within first (inl refl))), all_named P whole known names (λ n among. within n (inr among)))
 
-apart_there : (c : CoreState) → NamedThere c → Known (There c.objects) c
+pub apart_there : (c : CoreState) → NamedThere c → Known (There c.objects) c
 apart_there c there = apart (There c.objects) c (all_named (There c.objects) (naming c) there (naming c) (λ n among. among))
 
 together_there : (c d : CoreState) → d.objects ≡ c.objects → Known (There c.objects) d → NamedThere d
@@ -199,13 +199,20 @@ swept_names c object some = left_names (reached c) (reached (pruned (reached c) 
 swept_there : (c : CoreState) → NamedThere c → NamedThere (sweep c)
 swept_there c there object some = (swept_iff c object).1 (there object (swept_names c object some), some)
 
+pub resumed_there : (thread : ℕ) (c : CoreState) → NamedThere c → NamedThere (with_activity running_activity thread c)
+resumed_there thread c there =
+    together_there c (with_activity running_activity thread c) refl (acted (There c.objects) c (apart_there c there) running_activity (running_known (There c.objects)) thread)
+
+pub served_there : (place : ℕ) (c : CoreState) → NamedThere c → NamedThere (started place c)
+served_there place c there = together_there c (started place c) (same_started place c).0 (started_known (There c.objects) place c (apart_there c there))
+
 pub naming_there : Invariant
 naming_there = record {
   holds = NamedThere;
   small = λ by c k made change. small_there by c k change;
   call = call_there;
-  resumed = λ thread c k. together_there c (with_activity running_activity thread c) refl (acted (There c.objects) c (apart_there c k) running_activity (running_known (There c.objects)) thread);
-  served = λ place c k. together_there c (started place c) (same_started place c).0 (started_known (There c.objects) place c (apart_there c k));
+  resumed = resumed_there;
+  served = served_there;
   bridged = λ end c k given. together_there c _ refl (bridging_known (There c.objects) c (apart_there c k) end given.there);
   unbridged = λ end c k. together_there c _ refl (unbridged_known (There c.objects) c (apart_there c k) end);
   passed = λ deadline c k. together_there c (core_idle deadline c) (same_idle c deadline).0 (idled_known (There c.objects) c (apart_there c k) deadline);
