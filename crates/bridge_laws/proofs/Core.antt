@@ -25,9 +25,9 @@ use Rattle.kernel_types.specs.Ports.{admits}
 use Rattle.kernel_types.specs.Sweep.{kept, pruned, sweep}
 use Rattle.step_laws.specs.SmallChanges.Carries.{no_parts}
 use Rattle.step_laws.specs.Walks.{SmallWalk, ThreadChange, after_thread, moves_of}
-use Rattle.step_laws.specs.Walks.ThreadChange.{app_over, app_started, thread_over, wait_begun}
+use Rattle.step_laws.specs.Walks.ThreadChange.{app_over, app_started, member_added, set_made, thread_over, wait_begun}
 use Rattle.step_laws.proofs.Calls.{deliver_goes, get_message_goes, get_message_seqs, only_opened, put_from_told}
-use Rattle.bridge_laws.proofs.Leaving.{untouched}
+use Rattle.step_laws.proofs.Leaving.{untouched}
 use Rattle.step_laws.proofs.Outcomes.{Comes}
 use Rattle.step_laws.proofs.Rows.{row_keeps}
 use Rattle.step_laws.proofs.Steps.{none_yet}
@@ -54,6 +54,8 @@ ended_leaves app c =
     [ true ↦ started_leaves app (without_app app c) | false ↦ refl ]
 
 change_leaves : (app thread : ℕ) (asked : Call) (said : Answer) (c : CoreState) (change : ThreadChange app thread asked said c) → (after_thread app thread asked said c change).bridged ≡ c.bridged
+change_leaves app thread asked said c (set_made is made room) = refl
+change_leaves app thread asked said c (member_added held handle mask cookie id set entry is here may) = refl
 change_leaves app thread asked said c (wait_begun on awaits goes is) = refl
 change_leaves app thread asked said c (app_started place was there still connects) = started_leaves place c
 change_leaves app thread asked said c (thread_over ends) = refl

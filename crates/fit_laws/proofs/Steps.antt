@@ -24,9 +24,9 @@ use Rattle.kernel_laws.proofs.Starts.{same_ended, same_idle, same_started}
 use Rattle.step_laws.specs.SmallChanges.{Carries, Mark, MayDeliver, SmallChange, after, after_accept, marked_by}
 use Rattle.step_laws.specs.SmallChanges.Carries.{no_parts, parts_held}
 use Rattle.step_laws.specs.SmallChanges.Mark.{mark_blocked, mark_unblocked, mark_decided, mark_reported, mark_error}
-use Rattle.step_laws.specs.SmallChanges.SmallChange.{cookie_changed, entry_removed, entry_installed, parts_installed, last_changed, set_made, memory_made, client_made, pair_made, port_made, member_added, member_removed, member_remasked, member_put_last, memory_written, message_sent, message_opened, message_retired, end_marked, end_accepted}
+use Rattle.step_laws.specs.SmallChanges.SmallChange.{cookie_changed, entry_removed, entry_installed, parts_installed, last_changed, memory_made, client_made, pair_made, port_made, member_removed, member_remasked, member_put_last, memory_written, message_sent, message_opened, message_retired, end_marked, end_accepted}
 use Rattle.step_laws.specs.Walks.{CoreChange, ThreadChange, after_core, after_thread}
-use Rattle.step_laws.specs.Walks.ThreadChange.{app_over, app_started, thread_over, wait_begun}
+use Rattle.step_laws.specs.Walks.ThreadChange.{app_over, app_started, member_added, set_made, thread_over, wait_begun}
 use Rattle.step_laws.proofs.Invariants.{Invariant, change_keeps, holds_along}
 use Rattle.fit_laws.specs.Fitting.{Fitting, FittingCore}
 use Rattle.fit_laws.proofs.Accepting.{all_accepted, fit_accepted}
@@ -84,12 +84,10 @@ small_fits by c k (entry_removed app of_app handle entry held) = k
 small_fits by c k (entry_installed app of_app object nameable room) = k
 small_fits by c k (parts_installed app of_app id number count end message there is_open room) = k
 small_fits by c k (last_changed app of_app entry first) = k
-small_fits by c k set_made = fit_added c.objects c.next k (body.Set (record { members = [] })) tt
 small_fits by c k (memory_made size flags lawful) = fit_added c.objects c.next k (body.Memory (new_memory size flags)) tt
 small_fits by c k (client_made client path way) = fit_waiting client path c k
 small_fits by c k (pair_made client path id port way lets) = fit_pair client id port c k
 small_fits by c k (port_made path bufs size flags lawful free) = fit_published (new_port path bufs size flags) c k
-small_fits by c k (member_added app of_app id handle mask cookie set entry held may) = fit_set c.objects c.next k (with_member (new_member handle entry.object mask cookie)) id
 small_fits by c k (member_removed id label set there known) = fit_set c.objects c.next k (without_label label) id
 small_fits by c k (member_remasked id label mask cookie set there known) = fit_set c.objects c.next k (remasked label mask cookie) id
 small_fits by c k (member_put_last id member set there ready) = fit_set c.objects c.next k (with_last member) id
@@ -101,6 +99,8 @@ small_fits by c k (end_marked mark id) = fit_quiet c.objects c.next k (marked_by
 small_fits by c k (end_accepted id server rest port there first) = accepted_fits c k id server rest port there first
 
 call_fits : (app thread : ℕ) (asked : Call) (said : Answer) (c : CoreState) → FittingCore c → (change : ThreadChange app thread asked said c) → FittingCore (after_thread app thread asked said c change)
+call_fits app thread asked said c k (set_made is made room) = fit_added c.objects c.next k (body.Set (record { members = [] })) tt
+call_fits app thread asked said c k (member_added held handle mask cookie id set entry is here may) = fit_set c.objects c.next k (with_member (new_member handle entry.object mask cookie)) id
 call_fits app thread asked said c k (wait_begun on awaits goes is) = k
 call_fits app thread asked said c k (app_started place was there still connects) = same_fits c (started place c) (same_started place c) k
 call_fits app thread asked said c k (thread_over ends) = k
@@ -119,9 +119,9 @@ fitting = record {
   swept = λ c k. fit_swept c k;
 }
 
-pub change_fits : (c : CoreState) (change : CoreChange c) → FittingCore c → FittingCore (after_core c change)
+pub change_fits : (asked : Option Call) (c : CoreState) (change : CoreChange asked c) → FittingCore c → FittingCore (after_core asked c change)
 unfolding fitting
-change_fits c change k = change_keeps fitting c k change
+change_fits asked c change k = change_keeps fitting asked c k change
 
 opening_fits : (scene : SceneValue) → FittingCore (opening scene).core
 unfolding opening

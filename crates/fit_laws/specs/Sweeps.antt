@@ -1,4 +1,6 @@
 -- What holds at each sweep of a row of changes, just before it.
+use Rattle.std.specs.Prelude.{Option}
+use Rattle.kernel_values.specs.declared.call.Call.{Call}
 use Rattle.kernel_values.specs.declared.state.CoreState.{CoreState}
 use Rattle.step_laws.specs.Walks.{CoreChange, Row, after_core}
 use Rattle.step_laws.specs.Walks.CoreChange.{objects_swept}
@@ -12,10 +14,10 @@ pub record IsReady (c : CoreState) : Type 0 where
   pub ranked : Ranked c
   pub there : NamedThere c
 
-abbrev pub BeforeSweep : (CoreState → Type 0) → (b : CoreState) → CoreChange b → Type 0
-BeforeSweep P b objects_swept = P b
-BeforeSweep P b _ = Unit {0}
+abbrev pub BeforeSweep : (CoreState → Type 0) → (asked : Option Call) (b : CoreState) → CoreChange asked b → Type 0
+BeforeSweep P asked b objects_swept = P b
+BeforeSweep P asked b _ = Unit {0}
 
-abbrev pub BeforeSweeps : (CoreState → Type 0) → (c d : CoreState) → Row CoreChange after_core c d → Type 0
-BeforeSweeps P c d (stays _ is) = Unit {0}
-BeforeSweeps P c d (goes_on _ b row change is) = BeforeSweep P b change × BeforeSweeps P c b row
+abbrev pub BeforeSweeps : (CoreState → Type 0) → (asked : Option Call) (c d : CoreState) → Row (CoreChange asked) (after_core asked) c d → Type 0
+BeforeSweeps P asked c d (stays _ is) = Unit {0}
+BeforeSweeps P asked c d (goes_on _ b row change is) = BeforeSweep P asked b change × BeforeSweeps P asked c b row

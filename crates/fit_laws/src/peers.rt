@@ -1,7 +1,8 @@
 //! Objects fit together in every state of every history, so peers are mutual there.
 
-ghost use Rattle.std.specs.Prelude.{◌≡◌, List};
+ghost use Rattle.std.specs.Prelude.{List, Option};
 ghost use Rattle.kernel_values.specs.SceneLaw.{SceneValue};
+ghost use Rattle.kernel_values.specs.declared.call.Call.{Call};
 ghost use Rattle.kernel_values.specs.declared.entry.Entry.{Entry};
 ghost use Rattle.kernel_values.specs.declared.state.CoreState.{CoreState};
 ghost use Rattle.kernel_types.specs.History.{state_after};
@@ -13,7 +14,7 @@ ghost use Rattle.fit_laws.specs.Sweeps.{BeforeSweeps, IsReady};
 
 /// Every change of which steps are made keeps the objects fitting, so they fit in the middle of a step too.
 pub fn changes_keep_fitting()
-    ensures { (c : CoreState) (change : CoreChange c) → FittingCore c → FittingCore (after_core c change) }
+    ensures { (asked : Option Call) (c : CoreState) (change : CoreChange asked c) → FittingCore c → FittingCore (after_core asked c change) }
 {}
 
 /// In every history from an opening state the objects fit.
@@ -31,6 +32,6 @@ pub fn peers_are_mutual()
 /// In every history from an opening state, whatever changes go on from there: before each sweep of them the state meets all that
 /// a sweep by counts asks for. Each step is a row of such changes, so each of its sweeps may be made by counts.
 pub fn sweeps_may_be_made_by_counts()
-    ensures { (scene : SceneValue) (entries : List Entry) (d : CoreState) (row : Row CoreChange after_core (state_after (opening scene) entries).core d)
-        → BeforeSweeps IsReady (state_after (opening scene) entries).core d row }
+    ensures { (scene : SceneValue) (entries : List Entry) (asked : Option Call) (d : CoreState) (row : Row (CoreChange asked) (after_core asked) (state_after (opening scene) entries).core d)
+        → BeforeSweeps IsReady asked (state_after (opening scene) entries).core d row }
 {}

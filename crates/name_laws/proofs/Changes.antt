@@ -44,10 +44,10 @@ use Rattle.step_laws.specs.SmallChanges.{Carries, IsGiven, Mark, Nameable, Small
 use Rattle.step_laws.specs.SmallChanges.Carries.{no_parts, parts_held}
 use Rattle.step_laws.specs.SmallChanges.Mark.{mark_blocked, mark_unblocked, mark_decided, mark_reported, mark_error}
 use Rattle.step_laws.specs.SmallChanges.Nameable.{by_entry, by_number, by_pending}
-use Rattle.step_laws.specs.SmallChanges.SmallChange.{cookie_changed, entry_removed, entry_installed, parts_installed, last_changed, set_made, memory_made, client_made, pair_made, port_made, member_added, member_removed, member_remasked, member_put_last, memory_written, message_sent, message_opened, message_retired, end_marked, end_accepted}
+use Rattle.step_laws.specs.SmallChanges.SmallChange.{cookie_changed, entry_removed, entry_installed, parts_installed, last_changed, memory_made, client_made, pair_made, port_made, member_removed, member_remasked, member_put_last, memory_written, message_sent, message_opened, message_retired, end_marked, end_accepted}
 use Rattle.step_laws.specs.Walks.{Awaits, ThreadChange, after_thread, timeout_of}
 use Rattle.step_laws.specs.Walks.Awaits.{for_any, for_connect, for_object}
-use Rattle.step_laws.specs.Walks.ThreadChange.{app_over, app_started, thread_over, wait_begun}
+use Rattle.step_laws.specs.Walks.ThreadChange.{app_over, app_started, member_added, set_made, thread_over, wait_begun}
 use Rattle.name_laws.proofs.Known.{Known, Knows, KnowsBody, KnowsMembers, KnowsMessages, KnowsNames, KnowsTable, acted, added_known, changed_one, end_known, entry_known, installed_known, installs, on_end_known, on_memory_known, on_port_known, on_set_known, port_known, set_known, tabled}
 
 -- the numbers of objects that a change makes and names
@@ -56,6 +56,11 @@ NewKnown P by c (pair_made client path id port way lets) = P (c.next + 1)
 NewKnown P by c (port_made path bufs size flags lawful free) =
     Knows P (map (server_of (c.next + 1) (admitted (new_port path bufs size flags) c.objects)) (admitted (new_port path bufs size flags) c.objects))
 NewKnown P by c _ = Unit {0}
+
+-- the number of a set that a call makes and names
+abbrev pub NewCalled : (P : ℕ → Type 0) (app thread : ℕ) (asked : Call) (said : Answer) (c : CoreState) → ThreadChange app thread asked said c → Type 0
+NewCalled P app thread asked said c (set_made is made room) = P c.next
+NewCalled P app thread asked said c _ = Unit {0}
 
 is_there : {X : Type 0} (P : X → Type 0) (o : Option X) (x : X) → IfThere P o → o ≡ Some x → P x
 is_there P o x there is = subst (λ v. IfThere P v) is there
@@ -260,15 +265,10 @@ module _ (P : ℕ → Type 0) (c : CoreState) (k : Known P c) (given : (x : ℕ)
       (found_there (λ (m : Message). Knows P m.parts) (is_opened_as number) end.messages (messages_known id end there)) is_open in
       tabled P c k (λ table. all_installed table (take count message.parts)) (λ table known. all_in P (take count message.parts) (all_taken P count message.parts all) table known) app
   small_known by (last_changed app of_app entry first) new = marked_last P c k app entry.handle
-  small_known by set_made new = added_known P c k (body.Set (record { members = [] })) tt
   small_known by (memory_made size flags lawful) new = added_known P c k (body.Memory (new_memory size flags)) tt
   small_known by (client_made client path way) new = added_known P c k (body.End (new_end None end_state.Waiting (Some path) (Some client) 0 0)) tt
   small_known by (pair_made client path id port way lets) new = pair_known P c k client id port new
   small_known by (port_made path bufs size flags lawful free) new = published_known P c k (new_port path bufs size flags) new
-  small_known by (member_added app of_app id handle mask cookie set entry held may) new =
-      let known : P entry.object = nameable_known app entry.object (by_entry handle entry held refl) in
-      set_kept P c k (with_member (new_member handle entry.object mask cookie))
-      (λ s all. all_appended (λ (x : Member). P x.object) s.members (new_member handle entry.object mask cookie ∷ []) all (known, tt)) id
   small_known by (member_removed id label set there known) new =
       set_kept P c k (without_label label) (λ s all. all_filtered (λ (m : Member). P m.object) (λ member. not (has_label label member)) s.members all) id
   small_known by (member_remasked id label mask cookie set there known) new =
@@ -301,10 +301,18 @@ module _ (P : ℕ → Type 0) (c : CoreState) (k : Known P c) (given : (x : ℕ)
   awaited_known app asked on (for_connect end handle number same forever) = subst (λ (w : WaitOn). KnowsNames P (waited_names w)) (sym same) (given end number, tt)
   awaited_known app asked on (for_any same) = subst (λ (w : WaitOn). KnowsNames P (waited_names w)) (sym same) tt
 
-  pub call_known : (app thread : ℕ) (asked : Call) (said : Answer) (change : ThreadChange app thread asked said c) → Known P (after_thread app thread asked said c change)
-  call_known app thread asked said (wait_begun on awaits goes is) =
+  pub call_known : (app thread : ℕ) (asked : Call) (said : Answer) (change : ThreadChange app thread asked said c) → NewCalled P app thread asked said c change
+      → Known P (after_thread app thread asked said c change)
+  call_known app thread asked said (set_made is made room) new =
+      let one : Body = body.Set (record { members = [] }) in
+      installs P (added one c) (added_known P c k one tt) app c.next new
+  call_known app thread asked said (member_added held handle mask cookie id set entry is here may) new =
+      let known : P entry.object = nameable_known app entry.object (by_entry handle entry here refl) in
+      set_kept P c k (with_member (new_member handle entry.object mask cookie))
+      (λ s all. all_appended (λ (x : Member). P x.object) s.members (new_member handle entry.object mask cookie ∷ []) all (known, tt)) id
+  call_known app thread asked said (wait_begun on awaits goes is) new =
       let w : Wait = new_wait on (deadline_of c.clock (timeout_of asked)) in
       acted P c k (waiting_activity w) (waiting_known P w (awaited_known app asked on awaits)) thread
-  call_known app thread asked said (app_started place was there still connects) = started_known P place c k
-  call_known app thread asked said (thread_over ends) = acted P c k ended_activity (ended_known P) thread
-  call_known app thread asked said (app_over ends) = over_known P app c k
+  call_known app thread asked said (app_started place was there still connects) new = started_known P place c k
+  call_known app thread asked said (thread_over ends) new = acted P c k ended_activity (ended_known P) thread
+  call_known app thread asked said (app_over ends) new = over_known P app c k

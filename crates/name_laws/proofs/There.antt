@@ -34,15 +34,15 @@ use Rattle.set_laws.proofs.Soundness.{openings_given}
 use Rattle.object_laws.proofs.Living.{none_outlives}
 use Rattle.object_laws.proofs.Sweeping.{swept_iff}
 use Rattle.step_laws.specs.SmallChanges.{IsGiven, SmallChange, after, after_accept}
-use Rattle.step_laws.specs.SmallChanges.SmallChange.{cookie_changed, entry_removed, entry_installed, parts_installed, last_changed, set_made, memory_made, client_made, pair_made, port_made, member_added, member_removed, member_remasked, member_put_last, memory_written, message_sent, message_opened, message_retired, end_marked, end_accepted}
+use Rattle.step_laws.specs.SmallChanges.SmallChange.{cookie_changed, entry_removed, entry_installed, parts_installed, last_changed, memory_made, client_made, pair_made, port_made, member_removed, member_remasked, member_put_last, memory_written, message_sent, message_opened, message_retired, end_marked, end_accepted}
 use Rattle.step_laws.specs.Walks.{CoreChange, ThreadChange, after_core, after_thread}
-use Rattle.step_laws.specs.Walks.ThreadChange.{app_over, app_started, thread_over, wait_begun}
+use Rattle.step_laws.specs.Walks.ThreadChange.{app_over, app_started, member_added, set_made, thread_over, wait_begun}
 use Rattle.step_laws.proofs.Invariants.{Invariant, change_keeps, holds_along}
 use Rattle.step_laws.proofs.There.{there_changed}
 use Rattle.count_laws.specs.Thinning.{NamedThere}
 use Rattle.count_laws.proofs.Dropping.{left_names}
 use Rattle.count_laws.proofs.Holding.{counted_in, someone}
-use Rattle.name_laws.proofs.Changes.{NewKnown, bridging_known, call_known, idled_known, running_known, small_known, started_known, unbridged_known}
+use Rattle.name_laws.proofs.Changes.{NewCalled, NewKnown, bridging_known, call_known, idled_known, running_known, small_known, started_known, unbridged_known}
 use Rattle.name_laws.proofs.Known.{Known, Knows, acted, apart, together, weaker}
 
 abbrev pub There : List Object → ℕ → Type 0
@@ -92,12 +92,10 @@ small_keeps by c (entry_removed app of_app handle entry held) x there = there
 small_keeps by c (entry_installed app of_app object nameable room) x there = there
 small_keeps by c (parts_installed app of_app id number count end message found is_open room) x there = there
 small_keeps by c (last_changed app of_app entry first) x there = there
-small_keeps by c set_made x there = there_more c.objects _ x there
 small_keeps by c (memory_made size flags lawful) x there = there_more c.objects _ x there
 small_keeps by c (client_made client path way) x there = there_more c.objects _ x there
 small_keeps by c (pair_made client path id port way lets) x there = pair_keeps client id port c x there
 small_keeps by c (port_made path bufs size flags lawful free) x there = publish_keeps (new_port path bufs size flags) c x there
-small_keeps by c (member_added app of_app id handle mask cookie set entry held may) x there = there_one (on_set _) c.objects id x there
 small_keeps by c (member_removed id label set found known) x there = there_one (on_set _) c.objects id x there
 small_keeps by c (member_remasked id label mask cookie set found known) x there = there_one (on_set _) c.objects id x there
 small_keeps by c (member_put_last id member set found ready) x there = there_one (on_set _) c.objects id x there
@@ -179,17 +177,31 @@ small_there by c there change =
     let old : Known (There d.objects) c = weaker (There c.objects) c (apart_there c there) (There d.objects) up in
     together_there d d refl (small_known (There d.objects) c old (λ x given. up x given.there) by change (new_there by c change))
 
+call_keeps : (app thread : ℕ) (asked : Call) (said : Answer) (c : CoreState) (change : ThreadChange app thread asked said c) (x : ℕ) → There c.objects x
+    → There (after_thread app thread asked said c change).objects x
+call_keeps app thread asked said c (set_made is made room) x there = there_more c.objects _ x there
+call_keeps app thread asked said c (member_added held handle mask cookie id set entry is here may) x there = there_one (on_set _) c.objects id x there
+call_keeps app thread asked said c (wait_begun on awaits goes is) x there = there
+call_keeps app thread asked said c (app_started place was found still connects) x there = ap (λ (objects : List Object). is_there objects x) (same_started place c).0 ∙ there
+call_keeps app thread asked said c (thread_over ends) x there = there
+call_keeps app thread asked said c (app_over ends) x there = ap (λ (objects : List Object). is_there objects x) (same_ended app c).0 ∙ there
+
+set_new : (c : CoreState) → There (added (body.Set (record { members = [] })) c).objects c.next
+set_new c =
+    let same : (c.next == c.next) ≡ true = grind (arith, tests) in
+    there_last c.objects ((record { id = c.next; body = body.Set (record { members = [] }) }) ∷ []) c.next (ap (λ b. b || false) same)
+
+called_there : (app thread : ℕ) (asked : Call) (said : Answer) (c : CoreState) (change : ThreadChange app thread asked said c)
+    → NewCalled (There (after_thread app thread asked said c change).objects) app thread asked said c change
+called_there app thread asked said c (set_made is made room) = set_new c
+called_there app thread asked said c _ = tt
+
 call_there : (app thread : ℕ) (asked : Call) (said : Answer) (c : CoreState) → NamedThere c → (change : ThreadChange app thread asked said c) → NamedThere (after_thread app thread asked said c change)
 call_there app thread asked said c there change =
     let d : CoreState = after_thread app thread asked said c change in
-    let P : ThreadChange app thread asked said c → Type 0 = λ change. (after_thread app thread asked said c change).objects ≡ c.objects in
-    let same : (change : ThreadChange app thread asked said c) → P change = λ change. elim change as (λ v. P v) [
-      | wait_begun on awaits goes is ↦ refl
-      | app_started place was found still connects ↦ (same_started place c).0
-      | thread_over ends ↦ refl
-      | app_over ends ↦ (same_ended app c).0
-    ] in
-    together_there c d (same change) (call_known (There c.objects) c (apart_there c there) (λ x given. given.there) app thread asked said change)
+    let up : (x : ℕ) → There c.objects x → There d.objects x = call_keeps app thread asked said c change in
+    let old : Known (There d.objects) c = weaker (There c.objects) c (apart_there c there) (There d.objects) up in
+    together_there d d refl (call_known (There d.objects) c old (λ x given. up x given.there) app thread asked said change (called_there app thread asked said c change))
 
 -- what a sweep leaves named was named
 swept_names : (c : CoreState) (object : ℕ) → 0 < names_of (naming (sweep c)) object → 0 < names_of (naming c) object
@@ -219,9 +231,9 @@ naming_there = record {
   swept = λ c k. swept_there c k;
 }
 
-pub change_there : (c : CoreState) (change : CoreChange c) → NamedThere c → NamedThere (after_core c change)
+pub change_there : (asked : Option Call) (c : CoreState) (change : CoreChange asked c) → NamedThere c → NamedThere (after_core asked c change)
 unfolding naming_there
-change_there c change k = change_keeps naming_there c k change
+change_there asked c change k = change_keeps naming_there asked c k change
 
 -- Histories. In an opening state nothing is named.
 

@@ -1,7 +1,8 @@
 //! An object is there as long as an entry names it, neither longer nor shorter, by the step.
 
-ghost use Rattle.std.specs.Prelude.{◌≡◌, ◌<◌, ◌++◌, ◌↔◌, ℕ, List, true};
+ghost use Rattle.std.specs.Prelude.{◌≡◌, ◌<◌, ◌++◌, ◌↔◌, ℕ, List, Option, true};
 ghost use Rattle.kernel_values.specs.SceneLaw.{SceneValue};
+ghost use Rattle.kernel_values.specs.declared.call.Call.{Call};
 ghost use Rattle.kernel_values.specs.declared.entry.Entry.{Entry};
 ghost use Rattle.kernel_values.specs.declared.state.CoreState.{CoreState};
 ghost use Rattle.kernel_types.specs.History.{Legal, state_after};
@@ -14,7 +15,7 @@ ghost use Rattle.count_laws.specs.Thinning.{NamedThere};
 /// Where each object that an entry names is there, so it is after every change of which steps are made: no change but the
 /// sweep takes an object away, and what comes to be named is there.
 pub fn changes_name_what_is_there()
-    ensures { (c : CoreState) (change : CoreChange c) → NamedThere c → NamedThere (after_core c change) }
+    ensures { (asked : Option Call) (c : CoreState) (change : CoreChange asked c) → NamedThere c → NamedThere (after_core asked c change) }
 {}
 
 /// In every history from an opening state each object that an entry names is there: none goes before its last name does.

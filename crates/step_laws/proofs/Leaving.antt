@@ -1,11 +1,11 @@
 -- What changes of tables and objects leave: the threads, the clock and what the bridge names.
-use Rattle.std.proofs.Common.{◌≡◌, ℕ, false, true, List, Option, Some, None, refl, ◌∙◌}
+use Rattle.std.proofs.Common.{◌≡◌, ℕ, false, true, List, Option, Some, None, refl}
 use Rattle.kernel_values.specs.declared.state.CoreState.{CoreState}
 use Rattle.kernel_values.specs.declared.state.Object.{Object}
 use Rattle.kernel_types.specs.Connects.{accept_client, accepted_end, peer_of}
-use Rattle.kernel_types.specs.Objects.{changed, end_changed, end_of, on_end, on_port, port_changed, with_objects}
+use Rattle.kernel_types.specs.Objects.{changed, end_changed, end_of, on_end, port_changed, with_objects}
 use Rattle.step_laws.specs.SmallChanges.{SmallChange, after, after_accept}
-use Rattle.step_laws.specs.SmallChanges.SmallChange.{end_accepted, set_made}
+use Rattle.step_laws.specs.SmallChanges.SmallChange.{end_accepted}
 use Rattle.step_laws.specs.Walks.{SmallRow}
 use Rattle.step_laws.proofs.Rows.{row_keeps}
 
