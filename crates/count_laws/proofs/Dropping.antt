@@ -6,10 +6,8 @@ use Rattle.kernel_values.specs.declared.state.Body.{Body}
 use Rattle.kernel_values.specs.declared.state.Body.TheVariants as body
 use Rattle.kernel_values.specs.declared.state.ChannelEnd.{ChannelEnd}
 use Rattle.kernel_values.specs.declared.state.CoreState.{CoreState}
-use Rattle.kernel_values.specs.declared.state.EndState.{EndState}
 use Rattle.kernel_values.specs.declared.state.EndState.TheVariants as end_state
 use Rattle.kernel_values.specs.declared.state.Object.{Object}
-use Rattle.kernel_values.specs.declared.state.Port.{Port}
 use Rattle.kernel_types.specs.Connects.{peer_of}
 use Rattle.kernel_types.specs.Messages.{has_id}
 use Rattle.kernel_types.specs.Names.{Name, held_by, named_in, names_of, naming, root}
@@ -17,7 +15,7 @@ use Rattle.kernel_types.specs.Objects.{end_of, is_there, on_body, on_end, on_por
 use Rattle.kernel_types.specs.Reach.{Among, is_in}
 use Rattle.kernel_types.specs.Sweep.{cut_end, has_marked_peer, is_live, is_marked, kept, pruned, pruned_port, sweep}
 use Rattle.count_laws.specs.Dropping.Drops.{none_yet, one_more}
-use Rattle.count_laws.specs.Dropping.{AllNamed, Drops, IsLeft, Ranked, all_cut, all_unlisted, cut_from, dropped, is_other, others, unlisted}
+use Rattle.count_laws.specs.Dropping.{AllNamed, Drops, IsLeft, Ranked, all_unlisted, cut_from, dropped, is_other, others, unlisted}
 use Rattle.count_laws.specs.Thinning.{Exact, Fit, In, IsPending, IsServed, NamedThere, ids, thinned}
 use Rattle.count_laws.proofs.Counting.{counting_is_reaching, cut_object, kept_there, names_kept, names_pruned, pruned_object, pruned_there, root_prune, root_same}
 use Rattle.count_laws.proofs.Fitting.{falls_thinned, fit_thinned}

@@ -1,5 +1,5 @@
 -- A thinned state still fits.
-use Rattle.std.proofs.Common.{◌≡◌, ℕ, ◌+◌, ◌≤◌, ◌<◌, Bool, true, false, cond, ◌&&◌, ◌||◌, ◌==◌, ◌⊎◌, inl, inr, List, [], ◌∷◌, map, not, Option, Some, None, refl, sym, ◌∙◌, ap, subst, arith, tests}
+use Rattle.std.proofs.Common.{◌≡◌, ℕ, ◌+◌, ◌≤◌, ◌<◌, Bool, true, false, cond, ◌&&◌, ◌==◌, List, [], ◌∷◌, not, Option, Some, None, refl, sym, ◌∙◌, ap, subst, arith, tests}
 use Rattle.std.specs.List.{count_by, filter}
 use Rattle.std.proofs.lemmas.List.Sums.{sum_by-cons}
 use Rattle.kernel_values.specs.declared.state.Body.{Body}
@@ -12,11 +12,11 @@ use Rattle.kernel_values.specs.declared.state.Object.{Object}
 use Rattle.kernel_values.specs.declared.state.Port.{Port}
 use Rattle.std.proofs.lemmas.Map.Views.{any-filter_same}
 use Rattle.kernel_types.specs.Connects.{peer_of}
-use Rattle.kernel_types.specs.Names.{held_by, named_in, names_of, naming}
+use Rattle.kernel_types.specs.Names.{held_by, named_in, naming}
 use Rattle.kernel_types.specs.Objects.{end_of, is_there, on_end, on_port}
 use Rattle.kernel_types.specs.Reach.{is_in}
 use Rattle.kernel_types.specs.Sweep.{cut_end, has_marked_peer, is_live, is_marked, kept, pruned, pruned_port}
-use Rattle.count_laws.specs.Thinning.{Exact, Fit, In, IsPending, IsServed, NamedThere, thinned}
+use Rattle.count_laws.specs.Thinning.{Fit, In, IsPending, IsServed, NamedThere, thinned}
 use Rattle.count_laws.proofs.Counting.{cut_names, cut_object, fewer_names, kept_marked, of_kept, of_pruned, pruned_object}
 use Rattle.count_laws.proofs.Holding.{counted_in, holds}
 use Rattle.count_laws.proofs.Thinner.{peer_thinned, served_is}

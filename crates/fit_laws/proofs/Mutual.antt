@@ -1,5 +1,5 @@
 -- What fits has mutual peers.
-use Rattle.std.proofs.Common.{◌≡◌, ℕ, true, Option, Some, refl, sym, ◌∙◌, ap, subst}
+use Rattle.std.proofs.Common.{◌≡◌, ℕ, true, Some, sym, ◌∙◌, ap}
 use Rattle.kernel_values.specs.declared.state.ChannelEnd.{ChannelEnd}
 use Rattle.kernel_values.specs.declared.state.CoreState.{CoreState}
 use Rattle.kernel_values.specs.declared.state.Port.{Port}

@@ -1,40 +1,27 @@
 -- In every state of every step, before each sweep of it, the objects fit, what is named is there, and chains of sets are short: so a sweep by counts may be made.
-use Rattle.std.proofs.Common.{◌≡◌, ℕ, ◌+◌, ◌<◌, ◌≤◌, ◌==◌, ◌||◌, ◌++◌, inl, inr, Bool, true, false, List, [], ◌∷◌, length, Option, Some, None, refl, sym, ◌∙◌, ap, subst, arith, tests}
-use Rattle.std.specs.List.{filter}
+use Rattle.std.proofs.Common.{◌≡◌, ℕ, ◌+◌, ◌<◌, ◌≤◌, ◌==◌, ◌||◌, inl, inr, Bool, true, false, List, [], ◌∷◌, Option, Some, None, refl, ap, subst, arith, tests}
 use Rattle.std.specs.Option.{is_some}
 use Rattle.kernel_values.specs.SceneLaw.{SceneValue}
 use Rattle.kernel_values.specs.declared.call.Call.{Call}
 use Rattle.kernel_values.specs.declared.entry.Entry.{Entry}
 use Rattle.kernel_values.specs.declared.reply.Answer.{Answer}
-use Rattle.kernel_values.specs.declared.state.Body.{Body}
 use Rattle.kernel_values.specs.declared.state.Body.TheVariants as body
-use Rattle.kernel_values.specs.declared.state.ChannelEnd.{ChannelEnd}
-use Rattle.kernel_values.specs.declared.state.Connector.{Connector}
 use Rattle.kernel_values.specs.declared.state.CoreState.{CoreState}
-use Rattle.kernel_values.specs.declared.state.EndState.TheVariants as end_state
 use Rattle.kernel_values.specs.declared.state.HandleSet.{HandleSet}
 use Rattle.kernel_values.specs.declared.state.Member.{Member}
 use Rattle.kernel_values.specs.declared.state.Object.{Object}
-use Rattle.kernel_values.specs.declared.state.Port.{Port}
 use Rattle.kernel_values.specs.declared.state.TableEntry.{TableEntry}
 use Rattle.kernel_types.specs.Applications.{application_ended, started}
-use Rattle.kernel_types.specs.Connects.{accept_client, accepted_end, peer_of, pending_pair}
 use Rattle.kernel_types.specs.CoreStep.{core_idle}
-use Rattle.kernel_types.specs.Events.{events_of, is_ready_member}
 use Rattle.kernel_types.specs.History.{state_after}
-use Rattle.kernel_types.specs.Memories.{new_memory, written}
-use Rattle.kernel_types.specs.Messages.{free_id, with_message, with_opened, without_opened}
-use Rattle.kernel_types.specs.Objects.{added, changed, end_changed, end_of, is_there, new_end, on_body, on_end, on_memory, on_port, on_set, port_changed, set_changed, set_of, with_objects}
+use Rattle.kernel_types.specs.Objects.{added, is_there, set_changed}
 use Rattle.kernel_types.specs.Opening.{opening}
-use Rattle.kernel_types.specs.Ports.{new_port, server_end}
-use Rattle.kernel_types.specs.Reach.{is_in}
-use Rattle.kernel_types.specs.Reports.{with_last}
-use Rattle.kernel_types.specs.Sets.{new_member, remasked, with_member, without_label}
-use Rattle.kernel_types.specs.Sweep.{cut_end, kept, pruned, pruned_port, reached, sweep}
+use Rattle.kernel_types.specs.Sets.{new_member, with_member}
+use Rattle.kernel_types.specs.Sweep.{sweep}
 use Rattle.kernel_types.specs.Tables.{entry_at, table_of}
 use Rattle.kernel_laws.proofs.Starts.{same_ended, same_idle, same_started}
 use Rattle.kernel_laws.specs.Numbers.{RisesFrom}
-use Rattle.set_laws.specs.Chains.{ChainFrom, HasMember, IsSet}
+use Rattle.set_laws.specs.Chains.{HasMember}
 use Rattle.set_laws.proofs.Circles.{openings_short}
 use Rattle.set_laws.proofs.Adding.{added_keeps_short, membership_before}
 use Rattle.set_laws.proofs.Deepening.{small_shrinks, swept_shrinks}

@@ -1,5 +1,5 @@
 -- Every change of the core keeps the objects fitting, so every step does, and they fit in every history.
-use Rattle.std.proofs.Common.{◌≡◌, ℕ, false, List, [], ◌∷◌, Option, Some, None, refl, sym, ◌∙◌, ap, subst}
+use Rattle.std.proofs.Common.{◌≡◌, ℕ, false, List, [], ◌∷◌, Option, Some, None, refl, sym, ap, subst}
 use Rattle.kernel_values.specs.SceneLaw.{SceneValue}
 use Rattle.kernel_values.specs.declared.call.Call.{Call}
 use Rattle.kernel_values.specs.declared.entry.Entry.{Entry}

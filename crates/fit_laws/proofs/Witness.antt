@@ -4,7 +4,6 @@ use Rattle.kernel_values.specs.declared.flags.Events.{Events}
 use Rattle.kernel_values.specs.declared.flags.MemFlags.{MemFlags}
 use Rattle.kernel_values.specs.declared.flags.PortFlags.{PortFlags}
 use Rattle.kernel_values.specs.declared.state.Body.TheVariants as body
-use Rattle.kernel_values.specs.declared.state.ChannelEnd.{ChannelEnd}
 use Rattle.kernel_values.specs.declared.state.Connector.TheVariants as connector
 use Rattle.kernel_values.specs.declared.state.CoreState.{CoreState}
 use Rattle.kernel_values.specs.declared.state.EndState.TheVariants as end_state
@@ -14,17 +13,16 @@ use Rattle.kernel_values.specs.declared.state.Port.{Port}
 use Rattle.kernel_types.specs.Connects.{pending_pair}
 use Rattle.kernel_types.specs.Names.{named_in}
 use Rattle.kernel_types.specs.Messages.{with_message}
-use Rattle.kernel_types.specs.Objects.{changed, end_of, new_end, on_end, port_of}
+use Rattle.kernel_types.specs.Objects.{changed, new_end, on_end}
 use Rattle.kernel_types.specs.Reach.{is_in}
 use Rattle.kernel_types.specs.Sets.{new_member, with_member}
 use Rattle.count_laws.specs.Dropping.{Ranked}
-use Rattle.count_laws.specs.Thinning.{Fit, In}
+use Rattle.count_laws.specs.Thinning.{In}
 use Rattle.fit_laws.specs.Fitting.{Fitting, FittingCore, holds_memory}
 use Rattle.fit_laws.specs.WorkedState.{joined, objects, port_with, worked}
 use Rattle.fit_laws.proofs.Accepting.{all_accepted, fit_accepted}
 use Rattle.fit_laws.proofs.Appending.{fit_added}
 use Rattle.fit_laws.proofs.Marking.{fit_sent, fit_set}
-use Rattle.fit_laws.proofs.Meeting.{fitting_fits}
 use Rattle.fit_laws.proofs.Numbers.{in_one}
 use Rattle.fit_laws.proofs.Pairing.{fit_pair}
 

@@ -1,5 +1,5 @@
 -- What is known of each number that a state names is known of each that it names after a change, where it is known of what is new.
-use Rattle.std.proofs.Common.{◌≡◌, ℕ, ◌+◌, ◌==◌, ◌&&◌, Bool, true, false, cond, not, List, [], ◌∷◌, ◌++◌, length, map, take, Option, Some, None, refl, sym, subst}
+use Rattle.std.proofs.Common.{◌≡◌, ℕ, ◌+◌, ◌==◌, ◌&&◌, true, false, cond, not, List, [], ◌∷◌, ◌++◌, map, take, Option, Some, None, refl, sym, subst}
 use Rattle.std.specs.Prelude.{slice_get}
 use Rattle.std.specs.List.{AllByRecursion, filter, find, list_all, position_or_len}
 use Rattle.std.specs.Option.{is_some}
@@ -25,7 +25,7 @@ use Rattle.kernel_values.specs.declared.state.Wait.{Wait}
 use Rattle.kernel_values.specs.declared.state.WaitOn.{WaitOn}
 use Rattle.kernel_types.specs.Applications.{application_ended, ended_activity, ended_app, ended_thread, is_started_again, started, started_app, started_as, started_thread, without_app}
 use Rattle.kernel_types.specs.Bridge.{bridging, unbridged}
-use Rattle.kernel_types.specs.Connects.{accept_client, accepted_end, peer_of, pending_pair, waiting_client}
+use Rattle.kernel_types.specs.Connects.{accept_client, accepted_end, peer_of, pending_pair}
 use Rattle.kernel_types.specs.CoreStep.{cancelled_activity, core_idle}
 use Rattle.kernel_types.specs.Events.{events_of, is_filled, is_ready_member}
 use Rattle.kernel_types.specs.Memories.{new_memory, written}
@@ -40,7 +40,7 @@ use Rattle.kernel_types.specs.Threads.{activity_changed, new_wait, running_activ
 use Rattle.kernel_types.specs.Waits.{deadline_of}
 use Rattle.kernel_laws.proofs.Within.{all_map_at}
 use Rattle.set_laws.proofs.Lists.{IfThere, all_appended, all_filtered, all_mapped, all_taken, found_there}
-use Rattle.step_laws.specs.SmallChanges.{Carries, IsGiven, Mark, Nameable, SmallChange, after, after_accept, marked_by}
+use Rattle.step_laws.specs.SmallChanges.{Carries, IsGiven, Mark, Nameable, SmallChange, after, marked_by}
 use Rattle.step_laws.specs.SmallChanges.Carries.{no_parts, parts_held}
 use Rattle.step_laws.specs.SmallChanges.Mark.{mark_blocked, mark_unblocked, mark_decided, mark_reported, mark_error}
 use Rattle.step_laws.specs.SmallChanges.Nameable.{by_entry, by_number, by_pending}

@@ -1,5 +1,5 @@
 -- What names objects, where something is known of each number that is named, and which small changes keep that.
-use Rattle.std.proofs.Common.{ℕ, ◌==◌, Bool, List, [], ◌∷◌, ◌++◌, map, take, drop, Option, Some, None}
+use Rattle.std.proofs.Common.{ℕ, ◌==◌, List, [], ◌∷◌, ◌++◌, map, take, drop, Option, Some, None}
 use Rattle.std.specs.Prelude.{slice_get, nat_lt}
 use Rattle.std.specs.List.{AllByRecursion, flat_map, position_or_len}
 use Rattle.kernel_values.specs.declared.state.Activity.{Activity}

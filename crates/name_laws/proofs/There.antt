@@ -1,6 +1,6 @@
 -- Each object that an entry names is there: every change keeps it, so it holds along every history.
-use Rattle.std.proofs.Common.{◌≡◌, ℕ, ◌+◌, ◌<◌, ◌==◌, ◌||◌, ◌⊎◌, inl, inr, Bool, true, false, cond, List, [], ◌∷◌, ◌++◌, map, Option, Some, None, refl, sym, ◌∙◌, ap, subst, arith, tests, ◌↔◌}
-use Rattle.std.specs.List.{AllByRecursion, filter}
+use Rattle.std.proofs.Common.{◌≡◌, ℕ, ◌+◌, ◌<◌, ◌==◌, ◌||◌, inl, inr, Bool, true, false, cond, List, [], ◌∷◌, ◌++◌, map, Option, Some, None, refl, ◌∙◌, ap, subst, arith, tests, ◌↔◌}
+use Rattle.std.specs.List.{AllByRecursion}
 use Rattle.std.proofs.lemmas.List.Elements.{recursion_from_All}
 use Rattle.std.proofs.lemmas.List.Folds.{list_any-append}
 use Rattle.kernel_values.specs.SceneLaw.{SceneValue}
@@ -15,25 +15,24 @@ use Rattle.kernel_values.specs.declared.state.EndState.TheVariants as end_state
 use Rattle.kernel_values.specs.declared.state.Object.{Object}
 use Rattle.kernel_values.specs.declared.state.Port.{Port}
 use Rattle.kernel_values.specs.declared.state.State.{State}
-use Rattle.kernel_types.specs.Applications.{application_ended, started}
+use Rattle.kernel_types.specs.Applications.{started}
 use Rattle.kernel_types.specs.Connects.{accept_client, accepted_end, peer_of, pending_pair}
 use Rattle.kernel_types.specs.CoreStep.{core_idle}
 use Rattle.kernel_types.specs.Facts.{names_at}
 use Rattle.kernel_types.specs.History.{Legal, state_after}
-use Rattle.kernel_types.specs.Messages.{with_message}
-use Rattle.kernel_types.specs.Names.{Name, held_by, names_of, naming, root}
+use Rattle.kernel_types.specs.Names.{Name, names_of, naming}
 use Rattle.kernel_types.specs.Objects.{added, changed, end_changed, end_of, is_there, new_end, on_end, on_memory, on_port, on_set, port_changed}
 use Rattle.kernel_types.specs.Opening.{opening}
 use Rattle.kernel_types.specs.Ports.{admitted, decided, new_port, new_server, publish, server_end, server_of}
 use Rattle.kernel_types.specs.Reach.{Among}
-use Rattle.kernel_types.specs.Sweep.{kept, pruned, reached, sweep}
+use Rattle.kernel_types.specs.Sweep.{pruned, reached, sweep}
 use Rattle.kernel_types.specs.Threads.{running_activity, with_activity}
 use Rattle.kernel_laws.proofs.Starts.{same_ended, same_idle, same_started}
 use Rattle.set_laws.proofs.Lists.{all_weaker}
 use Rattle.set_laws.proofs.Soundness.{openings_given}
 use Rattle.object_laws.proofs.Living.{none_outlives}
 use Rattle.object_laws.proofs.Sweeping.{swept_iff}
-use Rattle.step_laws.specs.SmallChanges.{IsGiven, SmallChange, after, after_accept}
+use Rattle.step_laws.specs.SmallChanges.{SmallChange, after}
 use Rattle.step_laws.specs.SmallChanges.SmallChange.{cookie_changed, entry_removed, entry_installed, parts_installed, last_changed, memory_made, client_made, pair_made, port_made, member_removed, member_remasked, member_put_last, memory_written, message_sent, message_opened, message_retired, end_marked, end_accepted}
 use Rattle.step_laws.specs.Walks.{CoreChange, ThreadChange, after_core, after_thread}
 use Rattle.step_laws.specs.Walks.ThreadChange.{app_over, app_started, member_added, set_made, thread_over, wait_begun}
