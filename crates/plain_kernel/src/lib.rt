@@ -38,6 +38,3 @@ mod waits;
 mod words;
 
 pub use kernel::PlainKernel;
-
-#[cfg(test)]
-mod tests;

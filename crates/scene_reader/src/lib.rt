@@ -24,8 +24,6 @@ mod registers;
 mod repeat_lines;
 mod repeats;
 mod scene;
-#[cfg(test)]
-mod tests;
 mod texts;
 mod turn_lines;
 mod words;
