@@ -10,6 +10,8 @@ mod journal_tests;
 #[cfg(test)]
 mod plain_tests;
 #[cfg(test)]
+mod play;
+#[cfg(test)]
 mod quiet_kernel;
 #[cfg(test)]
 mod run_tests;

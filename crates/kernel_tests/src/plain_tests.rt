@@ -1,105 +1,62 @@
-//! One scene on the plain kernel, run by hand.
+//! One scene on the plain kernel, call by call.
 
+use crate::play::{Play, text};
 use kernel_types::IpcKernel;
-use kernel_values::{
-    ActorId, Answer, App, Bytes, Call, ConnectFlags, Errno, Event, Items, Manifest, NoMemory,
-    PortFlags, Reply, Scene, Script,
-};
+use kernel_types::values::{Answer, Call, ConnectFlags, Errno, NoMemory, PortFlags, Reply};
 use plain_kernel::PlainKernel;
+use scene_reader::read_scene;
 use std::alloc::Global;
 use std::test::Fail;
 
-/// One application of two threads, whose calls come from the test.
-fn two_threads(alloc: Global) -> Result<Scene, NoMemory> {
-    let mut threads = Items::new(alloc);
-    threads.push(Script::new(alloc))?;
-    threads.push(Script::new(alloc))?;
-    let mut apps = Items::new(alloc);
-    apps.push(App {
-        name: Items::from_slice(alloc, b"svc".as_slice())?,
-        manifest: Manifest {
-            uuid: 7,
-            restart: false,
-            deferred: false,
-            ports: Items::new(alloc),
-        },
-        threads,
-    })?;
-    Ok(Scene {
-        apps,
-        clients: Items::new(alloc),
-        queue: 1,
-        turns: Items::new(alloc),
-    })
+// One application of two threads, whose calls come from the test.
+const SCENE: &str =
+    "scene 1\napp svc {\"uuid\":\"00000000-0000-0000-0000-000000000007\"}\nthread\nthread\n";
+
+fn done() -> Answer {
+    Answer::Gives(Reply::Done)
 }
 
-fn begin(kernel: &mut PlainKernel, actor: u32, call: Call) -> Option<Answer> {
-    let event = Event::Begin {
-        actor: ActorId(actor),
-        start: 1,
-        call,
+// The place of the first call that was answered otherwise than it should; none where all seven were answered so, and the run
+// is whole with no object left.
+fn connects_accepts_and_closes_on<K: IpcKernel + Drop>(
+    alloc: Global,
+    kernel: K,
+) -> Result<Option<u32>, NoMemory> {
+    let mut play = Play::new(kernel);
+    let port = Call::PortCreate {
+        path: text(alloc, b"a.b".as_slice())?,
+        bufs: 2,
+        size: 16,
+        flags: PortFlags::TA,
     };
-    match kernel.step(event) {
-        Ok(entry) => Some(entry.answer),
-        Err(_) => None,
-    }
+    play.call(0, port, Answer::Gives(Reply::Handle(0)));
+    let connect = Call::Connect {
+        path: text(alloc, b"a.b".as_slice())?,
+        flags: ConnectFlags::ASYNC,
+    };
+    play.call(1, connect, Answer::Gives(Reply::Handle(1)));
+    let accepted = Reply::Accepted { handle: 2, uuid: 7 };
+    play.call(0, Call::Accept { port: 0 }, Answer::Gives(accepted));
+    play.call(0, Call::Close { handle: 1 }, done());
+    let bad_handle = Answer::Refuses(Errno::BadHandle);
+    play.call(0, Call::Close { handle: 1 }, bad_handle);
+    play.call(1, Call::Finish, done());
+    play.call(0, Call::Finish, done());
+    let is_over = play.kernel.whole() && play.kernel.end_facts().objects == 0;
+    play.note(is_over);
+    Ok(play.other)
 }
 
-fn is_handle(answer: &Option<Answer>, expected: u32) -> bool {
-    match answer {
-        Some(Answer::Gives(Reply::Handle(handle))) => *handle == expected,
-        _ => false,
-    }
-}
-
-fn is_done(answer: &Option<Answer>) -> bool {
-    match answer {
-        Some(Answer::Gives(Reply::Done)) => true,
-        _ => false,
+fn opened(alloc: Global) -> Result<PlainKernel, NoMemory> {
+    match read_scene(alloc, SCENE.as_bytes()) {
+        Ok(scene) => PlainKernel::new(alloc, &scene),
+        Err(_) => Err(NoMemory),
     }
 }
 
 #[test]
 fn connects_accepts_and_closes(rt: HostRuntime) -> Result<(), Fail> {
-    let alloc = rt.alloc();
-    let scene = two_threads(alloc)?;
-    let mut kernel = PlainKernel::new(alloc, &scene)?;
-    let path: Bytes = Items::from_slice(alloc, b"a.b".as_slice())?;
-    let port = begin(
-        &mut kernel,
-        0,
-        Call::PortCreate {
-            path,
-            bufs: 2,
-            size: 16,
-            flags: PortFlags(1),
-        },
-    );
-    assert!(rt; is_handle(&port, 0));
-    let path: Bytes = Items::from_slice(alloc, b"a.b".as_slice())?;
-    let client = begin(
-        &mut kernel,
-        1,
-        Call::Connect {
-            path,
-            flags: ConnectFlags(2),
-        },
-    );
-    assert!(rt; is_handle(&client, 1));
-    let accepted = match begin(&mut kernel, 0, Call::Accept { port: 0 }) {
-        Some(Answer::Gives(Reply::Accepted { handle, uuid })) => handle == 2 && uuid == 7,
-        _ => false,
-    };
-    assert!(rt; accepted);
-    assert!(rt; is_done(&begin(&mut kernel, 0, Call::Close { handle: 1 })));
-    let closed_twice = match begin(&mut kernel, 0, Call::Close { handle: 1 }) {
-        Some(Answer::Refuses(Errno::BadHandle)) => true,
-        _ => false,
-    };
-    assert!(rt; closed_twice);
-    assert!(rt; is_done(&begin(&mut kernel, 1, Call::Finish)));
-    assert!(rt; is_done(&begin(&mut kernel, 0, Call::Finish)));
-    assert!(rt; kernel.whole());
-    assert_eq!(rt; kernel.end_facts().objects, 0);
+    let kernel = opened(rt.alloc())?;
+    assert_eq!(rt; connects_accepts_and_closes_on(rt.alloc(), kernel)?, None);
     Ok(())
 }
