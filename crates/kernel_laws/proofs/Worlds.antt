@@ -54,19 +54,20 @@ InboxesOf w = Inboxes w.driver.connections
 abbrev Short : List ℕ → Type 0
 Short bytes = length bytes ≤ buffer_size
 
--- a change of the world leaves as many clients, and what is in inboxes short
+-- a change of the world leaves as many clients, the device, and what is in inboxes short
 pub record Leaves (w v : World) : Type 0 where
   pub clients : map nobody v.clients ≡ map nobody w.clients
+  pub device : v.device ≡ w.device
   pub inboxes : InboxesOf w → InboxesOf v
 
 leaves_none : (w : World) → Leaves w w
-leaves_none w = record { clients = refl; inboxes = λ short. short }
+leaves_none w = record { clients = refl; device = refl; inboxes = λ short. short }
 
 leaves_both : (u w v : World) → Leaves u w → Leaves w v → Leaves u v
-leaves_both u w v one other = record { clients = other.clients ∙ one.clients; inboxes = λ short. other.inboxes (one.inboxes short) }
+leaves_both u w v one other = record { clients = other.clients ∙ one.clients; device = other.device ∙ one.device; inboxes = λ short. other.inboxes (one.inboxes short) }
 
 leaves_client : (w : World) (change : ClientActivity → ClientActivity) (client : ℕ) → Leaves w (with_client change client w)
-leaves_client w change client = record { clients = map_at_same nobody (client_changed change) (λ x. refl) w.clients client; inboxes = λ short. short }
+leaves_client w change client = record { clients = map_at_same nobody (client_changed change) (λ x. refl) w.clients client; device = refl; inboxes = λ short. short }
 
 -- what a call of a client comes to
 pub record Acts (room : Room) (w : World) (acted : Acted) : Type 0 where
@@ -172,7 +173,7 @@ frames_few w = frames_short w.driver.size w.memory (new_elements w.memory (ring 
 
 pub leaves_drained : (w : World) → Leaves w (drained w)
 unfolding from_normal_drained to_normal_drained
-leaves_drained w = record { clients = refl; inboxes = λ short. all_delivered w.driver.connections short (drained_frames w) (frames_few w) }
+leaves_drained w = record { clients = refl; device = refl; inboxes = λ short. all_delivered w.driver.connections short (drained_frames w) (frames_few w) }
 
 -- Frames that go out.
 
@@ -183,7 +184,7 @@ send_by_acts : (room : Room) (w : World) (free frame : List ℕ) (after : World 
 send_by_acts room w [] frame after acts = refuses_well room w w (leaves_none w) errno.NotEnoughBuffer
 send_by_acts room w (place ∷ rest) frame after acts =
     let v : World = sent_in place rest frame w in
-    with_sent_acts room w frame (after v) (acts v (record { clients = refl; inboxes = λ short. short }))
+    with_sent_acts room w frame (after v) (acts v (record { clients = refl; device = refl; inboxes = λ short. short }))
 
 send_acts : (room : Room) (w : World) (frame : List ℕ) (after : World → Acted) → ((v : World) → Leaves w v → Acts room w (after v)) → Acts room w (send_frame frame after w)
 unfolding send_frame
@@ -215,7 +216,7 @@ inboxes_more (first ∷ connections) connection short one = (short.0, inboxes_mo
 asks_acts : (room : Room) (w v : World) → Leaves w v → (client address : ℕ) → Acts room w (asks client address v)
 asks_acts room w v leaves client address =
     let asked : Connection = asked_connection address client in
-    let more : Leaves v (with_connection asked v) = record { clients = refl; inboxes = λ short. inboxes_more v.driver.connections asked short (All-nil Short) } in
+    let more : Leaves v (with_connection asked v) = record { clients = refl; device = refl; inboxes = λ short. inboxes_more v.driver.connections asked short (All-nil Short) } in
     waits_well room w (with_connection asked v) (leaves_both w v (with_connection asked v) leaves more) client (wait_on.Connect address) None
 
 connect_acts : (room : Room) (w : World) (client : ℕ) (path : List ℕ) → Acts room w (ns_connect_call client path w)
@@ -270,7 +271,7 @@ receive_acts w connection (bytes ∷ rest) all =
     let shorter : InboxesOf w → InboxesOf (inbox_changed rest connection.address w) =
     λ short. inboxes_changed (with_inbox rest) (λ other some. All-from_recursion Short rest (all short).1) w.driver.connections connection.address short in
     record {
-      world = record { clients = refl; inboxes = shorter };
+      world = record { clients = refl; device = refl; inboxes = shorter };
       small = λ short. record { bytes = omega (arith, (all short).0); handles = omega arith };
       fits = λ short. record { bytes = omega (arith, (all short).0); handles = omega arith };
     }
@@ -310,6 +311,7 @@ shuts_acts : (room : Room) (w v : World) → Leaves w v → (address : ℕ) → 
 shuts_acts room w v leaves address =
     let more : Leaves v (shuts address v).world = record {
       clients = refl;
+      device = refl;
       inboxes = λ short. inboxes_changed closed_connection (λ connection some. All-nil Short) v.driver.connections address short;
     } in
     gives_well room w (shuts address v).world (leaves_both w v (shuts address v).world leaves more) reply.Done (omega arith) (omega arith) (omega arith)
@@ -331,7 +333,7 @@ close_call_acts room w client conn =
 
 -- the bytes of guest memory are nothing to clients and inboxes
 memory_acts : (room : Room) (w : World) (memory : List ℕ) → Acts room w (ns_gives reply.Done (record w { memory = memory }))
-memory_acts room w memory = gives_well room w (record w { memory = memory }) (record { clients = refl; inboxes = λ short. short }) reply.Done (omega arith) (omega arith) (omega arith)
+memory_acts room w memory = gives_well room w (record w { memory = memory }) (record { clients = refl; device = refl; inboxes = λ short. short }) reply.Done (omega arith) (omega arith) (omega arith)
 
 poke_acts : (room : Room) (w : World) (addr : ℕ) (bytes : List ℕ) → Acts room w (ns_poke_call addr bytes w)
 unfolding ns_poke_call

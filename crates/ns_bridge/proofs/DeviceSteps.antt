@@ -13,7 +13,7 @@ use Rattle.kernel_types.specs.Kernel.{Did, Refused, step_limit}
 use Rattle.kernel_types.specs.Limits.{FitsIn, path_room}
 use Rattle.kernel_types.specs.Step.{Stepped, device_has_work, device_stepped, full_step, step}
 use Rattle.kernel_types.specs.declared.kernel.StepCause.TheVariants.{NotMovable}
-use Rattle.kernel_laws.proofs.Bridged.{DeviceKeepsIf, any_change, device_keeps}
+use Rattle.step_laws.proofs.Bridged.{DeviceKeepsIf, any_change, device_keeps}
 use Rattle.kernel_laws.proofs.SameActors.{steps_keep}
 use Rattle.ns_device.specs.declared.told.Told.{Told}
 use Rattle.ns_device.specs.Steps.{Stepped as DeviceStepped}

@@ -26,7 +26,7 @@ use Rattle.kernel_types.specs.Outcome.{Outcome}
 use Rattle.kernel_types.specs.Step.{Stepped, begin, device_stepped, full_step, in_world, step}
 use Rattle.kernel_types.specs.declared.kernel.StepRefused.{StepRefused}
 use Rattle.kernel_types.proofs.Actors.{begin_of_thread, below_is_thread, resume_of_thread}
-use Rattle.kernel_laws.proofs.Bridged.{DeviceKeepsIf, device_keeps}
+use Rattle.step_laws.proofs.Bridged.{DeviceKeepsIf, device_keeps}
 use Rattle.ns_bridge.specs.Acts.{answered_if, client_acted}
 use Rattle.ns_bridge.specs.Parts.{Normal}
 use Rattle.ns_bridge.specs.Timely.{AreClientsInTime, AreInTime, IsClientInTime, IsInTime, IsOnTime, IsShortEvent, IsTimely}

@@ -32,7 +32,7 @@ use Rattle.kernel_types.specs.Sweep.{sweep}
 use Rattle.kernel_types.specs.Tables.{entry_at, free_handle, install, is_full, table_of}
 use Rattle.kernel_types.specs.Threads.{activity_changed, new_wait, running_activity, waiting_activity, waits_on, with_activity}
 use Rattle.kernel_types.specs.Waits.{can_have_events, deadline_of, end_of_wait, is_zero_timeout, wait, wait_any, wait_entry, wait_or_report}
-use Rattle.kernel_laws.proofs.Bridged.{OfDevice}
+use Rattle.step_laws.proofs.Bridged.{OfDevice}
 use Rattle.ns_bridge.specs.Timely.{AreInTime, IsInTime, IsNear, IsNearOn, IsShort, IsShortCall, IsTimely}
 use Rattle.ns_bridge.proofs.Calm.{Calm, calm_accept, calm_close, calm_drop, calm_drops, calm_dup, calm_end, calm_get, calm_mem_create, calm_mem_read, calm_mem_write, calm_port_create, calm_push, calm_put, calm_read, calm_report, calm_send, calm_set_add, calm_set_cookie, calm_set_create, calm_set_del, calm_set_mod, calm_sweep, calm_take, core_reported, same}
 

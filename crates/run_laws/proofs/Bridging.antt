@@ -22,7 +22,7 @@ use Rattle.kernel_types.specs.Objects.{end_changed, end_of}
 use Rattle.kernel_types.specs.Outcome.{Outcome}
 use Rattle.kernel_types.specs.Ports.{admits}
 use Rattle.kernel_types.specs.Sweep.{kept, pruned, sweep}
-use Rattle.kernel_laws.proofs.Bridged.{DeviceKeeps, DeviceKeepsIf, OfDevice, device_keeps}
+use Rattle.step_laws.proofs.Bridged.{DeviceKeeps, DeviceKeepsIf, OfDevice, device_keeps}
 use Rattle.runners.proofs.Quiet.{Quiet}
 use Rattle.run_laws.proofs.Places.{AllStand, quiet_stands, started_stands}
 

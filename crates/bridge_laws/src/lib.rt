@@ -1,0 +1,4 @@
+//! Laws of the bridge: which ends it names.
+#![tactic(auto)]
+
+pub mod bridged;

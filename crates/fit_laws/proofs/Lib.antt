@@ -1,0 +1,16 @@
+pub mod Looks
+pub mod Touching
+pub mod Meeting
+pub mod Numbers
+pub mod Marking
+pub mod Growing
+pub mod Appending
+pub mod Pairing
+pub mod Accepting
+pub mod Publishing
+pub mod Sweeping
+pub mod Ranking
+pub mod Witness
+pub mod Steps
+pub mod Mutual
+pub mod Ready

@@ -1,0 +1,4 @@
+pub mod Fitting
+pub mod WorkedState
+pub mod Peers
+pub mod Sweeps

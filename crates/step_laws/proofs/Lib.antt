@@ -1,0 +1,11 @@
+pub mod Bridged
+pub mod There
+pub mod Rows
+pub mod Leaving
+pub mod Outcomes
+pub mod Calls
+pub mod Acting
+pub mod Steps
+pub mod Invariants
+pub mod Turns
+pub mod Shapes

@@ -1,0 +1,2 @@
+pub mod SmallChanges
+pub mod Walks
