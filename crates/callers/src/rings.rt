@@ -1,0 +1,23 @@
+//! A caller of `virtqueue`.
+
+ghost use Rattle.std.specs.Prelude.{◌≡◌, None, Ok, Err, Some, length, IfOk, IfErr, IfSome, IfNone};
+ghost use Rattle.virtqueue.specs.Chains.{chain};
+ghost use Rattle.virtqueue.specs.Layout.{IsQueue, used_pushed, next_index};
+
+use virtqueue::{MEMORY_SIZE, Queue, RingFault, next_chain, push_used};
+
+/// Gives the next chain of the queue back unread: whether there was one, or the fault of the ring. Without one all stays.
+pub fn skip_chain(mem: &mut [u8], queue: &mut Queue) -> Result<bool, RingFault>
+    requires memory { length mem.old ≡ MEMORY_SIZE }
+    requires queue { IsQueue queue.old }
+    ensures fault { IfErr result (λ fault. chain mem.old queue.old ≡ Err fault) }
+    ensures none { result ≡ Ok false → (chain mem.old queue.old ≡ Ok None) × (mem.new ≡ mem.old) × (queue.new ≡ queue.old) }
+    ensures some { result ≡ Ok true → IfOk (chain mem.old queue.old) (λ found. IfSome found (λ next. mem.new ≡ used_pushed mem.old queue.old next.head 0)) }
+    ensures further { result ≡ Ok true → queue.new ≡ record queue.old { position = next_index queue.old.position; used = next_index queue.old.used } }
+{
+    let Some(next) = next_chain(mem, queue)? else {
+        return Ok(false);
+    };
+    push_used(mem, queue, next.head, 0);
+    Ok(true)
+}
