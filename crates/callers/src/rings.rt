@@ -1,6 +1,6 @@
 //! A caller of `virtqueue`.
 
-ghost use Rattle.std.specs.Prelude.{◌≡◌, None, Ok, Err, Some, length, IfOk, IfErr, IfSome, IfNone};
+ghost use Rattle.std.specs.Prelude.{◌≡◌, true, false, None, Ok, Err, length, IfOk, IfErr, IfSome};
 ghost use Rattle.virtqueue.specs.Chains.{chain};
 ghost use Rattle.virtqueue.specs.Layout.{IsQueue, used_pushed, next_index};
 
