@@ -1,5 +1,5 @@
 -- The path that a control message asks a connection to.
-use Rattle.std.specs.Prelude.{ℕ, List, Option, Some, None, Result, Ok, Err}
+use Rattle.std.specs.Prelude.{ℕ, List, Option, Some, None, Result, Ok}
 use Rattle.tipc_proto.specs.declared.controls.Control.{Control}
 use Rattle.tipc_proto.specs.declared.controls.Control.TheVariants.{ConnReq}
 use Rattle.tipc_proto.specs.declared.faults.FrameFault.{FrameFault}
