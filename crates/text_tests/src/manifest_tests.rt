@@ -53,10 +53,6 @@ fn faults(rt: HostRuntime) -> Result<(), Fail> {
         (r#"{"uuid":null}"#, ManifestFault::Uuid),
         (r#"{"uuid":"1111","mgmt_flags":1}"#, ManifestFault::Uuid),
         (
-            r#"{"uuid":"URN:UUID:700bd400-bfee-3dc0-d885-d5f9c40ff7e7"}"#,
-            ManifestFault::Uuid,
-        ),
-        (
             r#"{"uuid":"11111111222233334444555555555555","mgmt_flags":null,"start_ports":1}"#,
             ManifestFault::MgmtFlags,
         ),
@@ -113,10 +109,31 @@ fn texts(rt: HostRuntime) -> Result<(), Fail> {
     };
     assert_eq!(rt; manifest.uuid, 0x11111111_2222_3333_4444_555555555555);
     assert!(rt; manifest.ports.is_empty());
-    let urn = br#"{"uuid":"urn:uuid:11111111-2222-3333-4444-555555555555"}"#;
-    assert!(rt; spelled(rt.alloc(), urn)?.is_some());
     assert!(rt; spelled(rt.alloc(), b"{}")?.is_none());
     assert!(rt; spelled(rt.alloc(), b"{} x")?.is_none());
     assert!(rt; spelled(rt.alloc(), b"")?.is_none());
+    Ok(())
+}
+
+// The spellings that the crate uuid reads: hyphens, none, braces, and a URN in either case; nothing else.
+#[test]
+fn spellings_of_a_uuid(rt: HostRuntime) -> Result<(), Fail> {
+    let same = [
+        r#"{"uuid":"700bd400-bfee-3dc0-d885-d5f9c40ff7e7"}"#,
+        r#"{"uuid":"700BD400BFEE3DC0D885D5F9C40FF7E7"}"#,
+        r#"{"uuid":"{700bd400-bfee-3dc0-d885-d5f9c40ff7e7}"}"#,
+        r#"{"uuid":"urn:uuid:700bd400-bfee-3dc0-d885-d5f9c40ff7e7"}"#,
+        r#"{"uuid":"URN:UUID:700bd400-bfee-3dc0-d885-d5f9c40ff7e7"}"#,
+    ];
+    for text in same {
+        match read(rt.alloc(), text)? {
+            Ok(manifest) => {
+                assert_eq!(rt; manifest.uuid, 0x700bd400_bfee_3dc0_d885_d5f9c40ff7e7)
+            }
+            Err(_) => return Err(Fail::from(text)),
+        }
+    }
+    let other = r#"{"uuid":"urn:700bd400-bfee-3dc0-d885-d5f9c40ff7e7"}"#;
+    assert!(rt; matches!(read(rt.alloc(), other)?, Err(ManifestFault::Uuid)));
     Ok(())
 }
