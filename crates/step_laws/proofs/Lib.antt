@@ -8,3 +8,5 @@ pub mod Steps
 pub mod Invariants
 pub mod Turns
 pub mod Shapes
+pub mod Leaving
+pub mod BridgeLeaving
