@@ -10,3 +10,4 @@ pub mod Turns
 pub mod Shapes
 pub mod Leaving
 pub mod BridgeLeaving
+pub mod Quiet
