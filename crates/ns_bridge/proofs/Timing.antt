@@ -197,12 +197,12 @@ module _ (clock : ℕ) where
   ns_way_keeps : (way : Way) (c : CoreState) → IsTimely clock c → (path : List ℕ) → MadeKeeps (ns_connect_by way c path)
   ns_way_keeps (to_port id port) c t path =
       let made : CoreState = bridging c.next (pending_pair connector.NormalWorld id port c) in
-      let keeps : IsTimely clock (sweep made) = swept_keeps made (calm_keeps c made (record { threads = refl; clock = refl }) t) in
+      let keeps : IsTimely clock (sweep made) = swept_keeps made (calm_keeps c made (record { threads = refl; clock = refl; starts = refl }) t) in
       elim (not (admits port.flags connector.NormalWorld)) as (λ b. MadeKeeps (cond b (Err errno.AccessDenied) (Ok (sweep made)))) [ true ↦ tt | false ↦ keeps ]
   ns_way_keeps (to_start place start) c t path =
       let waits : CoreState = bridging c.next (waiting_client connector.NormalWorld path c) in
       let made : CoreState = started_unless_running place (slice_get c.apps place) waits in
-      let there : IsTimely clock made = served_keeps place (slice_get c.apps place) waits (calm_keeps c waits (record { threads = refl; clock = refl }) t) in
+      let there : IsTimely clock made = served_keeps place (slice_get c.apps place) waits (calm_keeps c waits (record { threads = refl; clock = refl; starts = refl }) t) in
       elim (not (admits start connector.NormalWorld)) as (λ b. MadeKeeps (cond b (Err errno.AccessDenied) (Ok (sweep made))))
       [ true ↦ tt | false ↦ swept_keeps made there ]
   ns_way_keeps to_nothing c t path = tt

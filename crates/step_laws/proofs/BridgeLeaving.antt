@@ -1,5 +1,5 @@
--- What the bridge's calls leave of the core: a message that goes or comes leaves the ends that the bridge names, the threads and
--- the clock; a drop leaves the last two.
+-- What the bridge's calls leave of the core: a message that goes or comes leaves all that changes of objects leave, and a drop all of it
+-- but the ends that the bridge names.
 use Rattle.std.proofs.Common.{◌≡◌, ◌∙◌, ℕ, Bool, true, false, cond, List, [], ◌∷◌, length, Option, Some, None, refl}
 use Rattle.std.specs.List.{find, fold}
 use Rattle.kernel_values.specs.declared.errno.Errno.TheVariants as errno
@@ -19,7 +19,7 @@ use Rattle.kernel_types.specs.Sweep.{sweep}
 use Rattle.step_laws.proofs.Leaving.{Calm, Untouched, sweep_leaves, untouched}
 
 then_leaves : (c b d : CoreState) → Untouched c b → Untouched b d → Untouched c d
-then_leaves c b d one other = record { bridged = other.bridged ∙ one.bridged; threads = other.threads ∙ one.threads; clock = other.clock ∙ one.clock }
+then_leaves c b d one other = record { bridged = other.bridged ∙ one.bridged; threads = other.threads ∙ one.threads; clock = other.clock ∙ one.clock; starts = other.starts ∙ one.starts }
 
 and_swept : (c d : CoreState) → Untouched c d → Untouched c (sweep d)
 and_swept c d k = then_leaves c d (sweep d) k (sweep_leaves d)
@@ -37,7 +37,7 @@ deliver_leaves c id (Some peer) None bytes = untouched c
 deliver_leaves c id (Some peer) (Some end) bytes =
     leaves_if c (is_full_end end) (refuses errno.NotEnoughBuffer (end_changed blocked_end id c))
     (gives_with (reply.Count (length bytes)) (sent_seq peer end.sent) (end_changed (with_message bytes []) peer c))
-    (record { bridged = refl; threads = refl; clock = refl }) (record { bridged = refl; threads = refl; clock = refl })
+    (record { bridged = refl; threads = refl; clock = refl; starts = refl }) (record { bridged = refl; threads = refl; clock = refl; starts = refl })
 
 push_from_leaves : (c : CoreState) (end : ℕ) (bytes : List ℕ) (from : Option ChannelEnd) → Untouched c (push_from c end bytes from).core
 push_from_leaves c end bytes None = untouched c
@@ -52,17 +52,17 @@ push_leaves c end bytes = push_from_leaves c end bytes (end_of c.objects end)
 
 get_message_leaves : (c : CoreState) (id : ℕ) (end : ChannelEnd) (message : Option Message) → Untouched c (get_message c id end message).core
 get_message_leaves c id end None = leaves_if c (is_disconnected end.state) (refuses errno.ChannelClosed c) (refuses errno.NoMsg c) (untouched c) (untouched c)
-get_message_leaves c id end (Some message) = record { bridged = refl; threads = refl; clock = refl }
+get_message_leaves c id end (Some message) = record { bridged = refl; threads = refl; clock = refl; starts = refl }
 
 unblocked_leaves : (c : CoreState) (peer : Option ℕ) → Untouched c (peer_unblocked peer c)
 unblocked_leaves c None = untouched c
-unblocked_leaves c (Some peer) = record { bridged = refl; threads = refl; clock = refl }
+unblocked_leaves c (Some peer) = record { bridged = refl; threads = refl; clock = refl; starts = refl }
 
 put_message_leaves : (c : CoreState) (id : ℕ) (end : ChannelEnd) (number : ℕ) (message : Option Message) → Untouched c (put_message c id end number message).core
 put_message_leaves c id end number None = untouched c
 put_message_leaves c id end number (Some message) =
     let less : CoreState = end_changed (without_opened number) id c in
-    then_leaves c less (peer_unblocked end.peer less) (record { bridged = refl; threads = refl; clock = refl }) (unblocked_leaves less end.peer)
+    then_leaves c less (peer_unblocked end.peer less) (record { bridged = refl; threads = refl; clock = refl; starts = refl }) (unblocked_leaves less end.peer)
 
 put_from_leaves : (c : CoreState) (id number : ℕ) (end : Option ChannelEnd) → Untouched c (put_from c id number end).core
 put_from_leaves c id number None = untouched c
@@ -85,7 +85,7 @@ take_leaves c end = take_from_leaves c end (end_of c.objects end)
 
 peer_marked_leaves : (c : CoreState) (peer : Option ℕ) → Untouched c (peer_marked peer c)
 peer_marked_leaves c None = untouched c
-peer_marked_leaves c (Some peer) = record { bridged = refl; threads = refl; clock = refl }
+peer_marked_leaves c (Some peer) = record { bridged = refl; threads = refl; clock = refl; starts = refl }
 
 pub marked_leaves : (c : CoreState) (broken : Bool) (end : ℕ) → Untouched c (marked_if broken end c)
 marked_leaves c true end = peer_marked_leaves c (peer_of (end_of c.objects end))
@@ -97,11 +97,11 @@ drop_calm c broken end =
     let less : CoreState = unbridged end (marked_if broken end c) in
     let swept : Untouched less (sweep less) = sweep_leaves less in
     let marked : Untouched c (marked_if broken end c) = marked_leaves c broken end in
-    record { threads = swept.threads ∙ marked.threads; clock = swept.clock ∙ marked.clock }
+    record { threads = swept.threads ∙ marked.threads; clock = swept.clock ∙ marked.clock; starts = swept.starts ∙ marked.starts }
 
 pub drops_calm : (c : CoreState) (entries : List BridgeEntry) → Calm c (fold entry_dropped c entries)
-drops_calm c [] = record { threads = refl; clock = refl }
+drops_calm c [] = record { threads = refl; clock = refl; starts = refl }
 drops_calm c (entry ∷ entries) =
     let first : Calm c (ns_drop true entry.end c) = drop_calm c true entry.end in
     let rest : Calm (ns_drop true entry.end c) (fold entry_dropped c (entry ∷ entries)) = drops_calm (ns_drop true entry.end c) entries in
-    record { threads = rest.threads ∙ first.threads; clock = rest.clock ∙ first.clock }
+    record { threads = rest.threads ∙ first.threads; clock = rest.clock ∙ first.clock; starts = rest.starts ∙ first.starts }

@@ -10,4 +10,3 @@ pub mod Turns
 pub mod Shapes
 pub mod Leaving
 pub mod BridgeLeaving
-pub mod Quiet
