@@ -57,7 +57,7 @@ client_shrinks : (c : CoreState) (client : Option ℕ) → Shrinking c (accept_c
 client_shrinks c None = shrinking_same c c (refl, refl)
 client_shrinks c (Some client) = end_shrinks c (accepted_end true) client
 
-small_shrinks : (by : Option ℕ) (c : CoreState) (change : SmallChange by c) → Shrinking c (after by c change)
+pub small_shrinks : (by : Option ℕ) (c : CoreState) (change : SmallChange by c) → Shrinking c (after by c change)
 small_shrinks by c (cookie_changed app of_app handle cookie entry held) = shrinking_same c _ (refl, refl)
 small_shrinks by c (entry_removed app of_app handle entry held) = shrinking_same c _ (refl, refl)
 small_shrinks by c (entry_installed app of_app object nameable room) = shrinking_same c _ (refl, refl)
@@ -87,7 +87,7 @@ small_shrinks by c (end_accepted id server rest port there first) =
     let client : Option ℕ = peer_of (end_of c.objects server) in
     shrinking_both c ends (accept_client client ends) (shrinking_both c less ends here (end_shrinks less (accepted_end false) server)) (client_shrinks ends client)
 
-swept_shrinks : (c : CoreState) → Shrinking c (sweep c)
+pub swept_shrinks : (c : CoreState) → Shrinking c (sweep c)
 unfolding sweep pruned kept
 swept_shrinks c =
     let prune : Port → Port = pruned_port (reached c) c.objects in

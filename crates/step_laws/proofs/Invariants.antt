@@ -33,7 +33,7 @@ pub record Invariant : Type 1 where
   pub swept : (c : CoreState) → holds c → holds (sweep c)
 
 module _ (L : Invariant) where
-  change_keeps : (asked : Option Call) (c : CoreState) → L.holds c → (change : CoreChange asked c) → L.holds (after_core asked c change)
+  pub change_keeps : (asked : Option Call) (c : CoreState) → L.holds c → (change : CoreChange asked c) → L.holds (after_core asked c change)
   change_keeps asked c k (by_small by made change) = L.small by c k made change
   change_keeps asked c k (by_call app thread begun said is change) = L.call app thread begun said c k change
   change_keeps asked c k (wait_over thread start found wait there waited) = L.resumed thread c k
