@@ -19,11 +19,11 @@ use Rattle.kernel_types.specs.History.{Legal, next_state, state_after, state_or}
 use Rattle.kernel_types.specs.Opening.{opening, opening_activity, opening_app, opening_threads}
 use Rattle.kernel_types.specs.Step.{Stepped, step}
 use Rattle.kernel_types.specs.Tables.{table_in}
-use Rattle.set_laws.proofs.BridgeSteps.{IfStepped}
+use Rattle.step_laws.proofs.Invariants.{holds_along, step_keeps}
 use Rattle.set_laws.proofs.Lists.{IfThere, all_appended, all_get, all_weaker}
 use Rattle.app_laws.specs.Ended.{EndedNameNone, IsSettled, NamesNone, runs, waits}
 use Rattle.app_laws.proofs.Settling.{EmptyUnlessRunning, OverUnlessRunning, RunsAt}
-use Rattle.app_laws.proofs.Steps.{SettledIn, step_settles}
+use Rattle.app_laws.proofs.Steps.{SettledIn, settling}
 
 from_state : (s : State) → IsSettled s → SettledIn s.core
 from_state s k = record {
@@ -78,14 +78,8 @@ settled_openings scene = to_state (opening scene) (opening_settled scene)
 
 -- Steps.
 
-stepped_settled : (o : Option Stepped) (r : Stepped) → o ≡ Some r → IfStepped SettledIn o → SettledIn r.state.core
-stepped_settled None r is settles = absurd (cc)
-stepped_settled (Some stepped) r is settles =
-    let same : stepped ≡ r = cc in
-    subst (λ (x : Stepped). SettledIn x.state.core) same settles
-
 pub steps_settle : (s : State) (e : Event) (r : Stepped) → IsSettled s → step s e ≡ Some r → IsSettled r.state
-steps_settle s e r k is = to_state r.state (stepped_settled (step s e) r is (step_settles s (from_state s k) e))
+steps_settle s e r k is = to_state r.state (step_keeps settling s e r is (from_state s k))
 
 -- What does not run names nothing.
 
@@ -116,18 +110,6 @@ openings_none scene = name_none (opening scene) (settled_openings scene)
 
 -- Histories.
 
-settled_or : (s : State) → IsSettled s → (o : Option Stepped) → ((r : Stepped) → o ≡ Some r → IsSettled r.state) → IsSettled (state_or s o)
-settled_or s k None keeps = k
-settled_or s k (Some stepped) keeps = keeps stepped refl
-
--- where the event is not lawful, the state stays
-next_settled : (s : State) (e : Event) → IsSettled s → IsSettled (next_state s e)
-next_settled s e k = settled_or s k (step s e) (λ r is. steps_settle s e r k is)
-
-histories_settled : (s : State) (entries : List Entry) → IsSettled s → IsSettled (state_after s entries)
-histories_settled s [] k = k
-histories_settled s (entry ∷ entries) k = histories_settled (next_state s entry.event) entries (next_settled s entry.event k)
-
 pub histories_none : (scene : SceneValue) (before after : List Entry) → Legal (opening scene) (before ++ after) → EndedNameNone (state_after (opening scene) before)
 histories_none scene before after legal =
-    name_none (state_after (opening scene) before) (histories_settled (opening scene) before (settled_openings scene))
+    name_none (state_after (opening scene) before) (to_state (state_after (opening scene) before) (holds_along settling (opening scene) before (opening_settled scene)))

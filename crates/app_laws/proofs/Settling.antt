@@ -16,15 +16,10 @@ use Rattle.kernel_types.specs.Tables.{table_changed}
 use Rattle.kernel_types.specs.Threads.{activity_changed}
 use Rattle.kernel_laws.proofs.Within.{all_map_at}
 use Rattle.set_laws.proofs.Lists.{IfThere, all_mapped, all_weaker}
+use Rattle.step_laws.proofs.There.{map_at_later}
 use Rattle.app_laws.specs.Ended.{runs}
 
 -- A list with one item changed.
-
-map_at_later : {X : Type 0} (f : X → X) (x : X) (xs : List X) (at : ℕ) → map_at f (x ∷ xs) (suc at) ≡ x ∷ map_at f xs at
-map_at_later f x xs at =
-    let Q : Option _ → Type 0 = λ o. set_if (x ∷ xs) (suc at) o ≡ x ∷ set_if xs at o in
-    let go : (o : Option _) → Q o = λ o. elim o as (λ v. Q v) [ None ↦ refl | Some y ↦ refl ] in
-    go (option_map f (slice_get xs at))
 
 get_changed : {X : Type 0} (f : X → X) (xs : List X) (at : ℕ) → slice_get (map_at f xs at) at ≡ option_map f (slice_get xs at)
 get_changed f [] at = refl
@@ -55,11 +50,6 @@ pub record Settled (apps : List Application) (threads : List Thread) : Type 0 wh
   pub tables : AllByRecursion EmptyUnlessRunning apps
   pub over : AllByRecursion (OverUnlessRunning apps) threads
 
--- and this application runs
-pub record Live (app : ℕ) (apps : List Application) (threads : List Thread) : Type 0 where
-  pub settled : Settled apps threads
-  pub here : RunsAt apps app ≡ true
-
 -- Which places run after a change.
 
 still_off : (f : Application → Application) → ((app : Application) → (f app).running ≡ false → app.running ≡ false) → (apps : List Application) (at place : ℕ)
@@ -81,10 +71,6 @@ others_off f (app ∷ apps) (suc at) (suc place) apart off =
     others_off f apps at place (λ same. apart (ap (λ n. suc n) same))
     (subst (λ (xs : List Application). RunsAt xs (suc place) ≡ false) (map_at_later f app apps at) off)
 
-still_true : (b d : Bool) → (d ≡ false → b ≡ false) → b ≡ true → d ≡ true
-still_true b true less is = refl
-still_true b false less is = absurd (cc (less refl, is))
-
 pub not_over_runs : (b : Bool) → (b ≡ false → false ≡ true) → b ≡ true
 not_over_runs true over = refl
 not_over_runs false over = over refl
@@ -97,26 +83,26 @@ module _ (f : Application → Application) (less : (app : Application) → (f ap
   threads_kept apps at threads all =
       all_weaker (OverUnlessRunning apps) (OverUnlessRunning (map_at f apps at)) (λ t over off. over (still_off f less apps at t.app off)) threads all
 
-  app_changed : (app : ℕ) (apps : List Application) (threads : List Thread) (at : ℕ) → IfThere (λ a. EmptyUnlessRunning (f a)) (slice_get apps at)
-      → Live app apps threads → Live app (map_at f apps at) threads
-  app_changed app apps threads at there k = record {
-    settled = record { tables = all_placed EmptyUnlessRunning f apps at there k.settled.tables; over = threads_kept apps at threads k.settled.over };
-    here = still_true (RunsAt apps app) (RunsAt (map_at f apps at) app) (still_off f less apps at app) k.here;
-  }
+  app_changed : (apps : List Application) (threads : List Thread) (at : ℕ) → IfThere (λ a. EmptyUnlessRunning (f a)) (slice_get apps at)
+      → Settled apps threads → Settled (map_at f apps at) threads
+  app_changed apps threads at there k =
+      record { tables = all_placed EmptyUnlessRunning f apps at there k.tables; over = threads_kept apps at threads k.over }
 
-pub tabled : (app : ℕ) (apps : List Application) (threads : List Thread) → Live app apps threads → (change : List TableEntry → List TableEntry)
-    → Live app (map_at (table_changed change) apps app) threads
-tabled app apps threads k change =
+-- an application that runs may get entries, and report them
+
+pub tabled : (app : ℕ) (apps : List Application) (threads : List Thread) → Settled apps threads → RunsAt apps app ≡ true → (change : List TableEntry → List TableEntry)
+    → Settled (map_at (table_changed change) apps app) threads
+tabled app apps threads k here change =
     let P : Option Application → Type 0 = λ o. runs o ≡ true → IfThere (λ a. EmptyUnlessRunning (table_changed change a)) o in
     let go : (o : Option Application) → P o = λ o. elim o as (λ v. P v) [ None ↦ (λ is. tt) | Some a ↦ (λ is off. absurd (cc (is, off))) ] in
-    app_changed (table_changed change) (λ a off. off) app apps threads app (go (slice_get apps app) k.here) k
+    app_changed (table_changed change) (λ a off. off) apps threads app (go (slice_get apps app) here) k
 
-pub reported : (app : ℕ) (apps : List Application) (threads : List Thread) → Live app apps threads → (handle : ℕ)
-    → Live app (map_at (λ a. record a { last = Some handle }) apps app) threads
-reported app apps threads k handle =
+pub reported : (app : ℕ) (apps : List Application) (threads : List Thread) → Settled apps threads → RunsAt apps app ≡ true → (handle : ℕ)
+    → Settled (map_at (λ a. record a { last = Some handle }) apps app) threads
+reported app apps threads k here handle =
     let P : Option Application → Type 0 = λ o. runs o ≡ true → IfThere (λ (a : Application). EmptyUnlessRunning (record a { last = Some handle })) o in
     let go : (o : Option Application) → P o = λ o. elim o as (λ v. P v) [ None ↦ (λ is. tt) | Some a ↦ (λ is off. absurd (cc (is, off))) ] in
-    app_changed (λ a. record a { last = Some handle }) (λ a off. off) app apps threads app (go (slice_get apps app) k.here) k
+    app_changed (λ a. record a { last = Some handle }) (λ a off. off) apps threads app (go (slice_get apps app) here) k
 
 -- Changes of threads: one that is over stays over.
 
@@ -129,10 +115,6 @@ acted_settled apps threads k change keeps thread = record {
   tables = k.tables;
   over = all_map_at (OverUnlessRunning apps) (activity_changed change) (λ t over off. keeps t.activity (over off)) threads thread k.over;
 }
-
-pub acted : (app : ℕ) (apps : List Application) (threads : List Thread) → Live app apps threads → (change : Activity → Activity) → KeepsOver change → (thread : ℕ)
-    → Live app apps (map_at (activity_changed change) threads thread)
-acted app apps threads k change keeps thread = record { settled = acted_settled apps threads k.settled change keeps thread; here = k.here }
 
 cancelled_over : (a : Activity) → is_over a ≡ true → is_over (cancelled_activity a) ≡ true
 cancelled_over activity.Off over = over
@@ -183,15 +165,6 @@ started_as_settled place c k (Some was) is = all_started place (was.starts + 1) 
 pub started_settled : (place : ℕ) (c : CoreState) → Settled c.apps c.threads → Settled (started place c).apps (started place c).threads
 unfolding started
 started_settled place c k = started_as_settled place c k (slice_get c.apps place) refl
-
-started_as_runs : (place : ℕ) (c : CoreState) (o : Option Application) (app : ℕ) → RunsAt c.apps app ≡ true → RunsAt (started_as place o c).apps app ≡ true
-started_as_runs place c None app here = here
-started_as_runs place c (Some was) app here =
-    still_true (RunsAt c.apps app) (RunsAt (map_at started_app c.apps place) app) (still_off started_app (λ a wrong. absurd (cc wrong)) c.apps place app) here
-
-pub begun : (app : ℕ) (c : CoreState) → Live app c.apps c.threads → (place : ℕ) → Live app (started place c).apps (started place c).threads
-unfolding started
-begun app c k place = record { settled = started_settled place c k.settled; here = started_as_runs place c (slice_get c.apps place) app k.here }
 
 -- Ends.
 

@@ -11,11 +11,8 @@ pub mod Standing
 pub mod Starts
 pub mod Tales
 pub mod Tells
-pub mod Walk
 pub mod Within
-pub mod WithinBridge
-pub mod WithinChannels
-pub mod WithinConnections
-pub mod WithinOthers
+pub mod WithinChanges
+pub mod Answers
 pub mod WithinSteps
 pub mod Worlds

@@ -26,10 +26,16 @@ use Rattle.kernel_laws.proofs.Found.{changed_cons, found, found_append, found_ch
 use Rattle.kernel_laws.proofs.Publishing.{servers_new}
 use Rattle.kernel_laws.proofs.Starts.{same_ended, same_idle, same_started}
 use Rattle.kernel_laws.proofs.Tells.{IsNew}
-use Rattle.kernel_laws.proofs.Walk.{Kept, StepKeeps, history_keeps, made_kept, ns_connect_keeps, ns_drop_kept, ns_push_keeps, ns_take_keeps, step_keeps, swept_kept}
-
-abbrev Nothing : Type 0
-Nothing = Unit {0}
+use Rattle.kernel_values.specs.declared.call.Call.{Call}
+use Rattle.kernel_values.specs.declared.entry.Seqs.{Seqs}
+use Rattle.kernel_values.specs.declared.reply.Answer.{Answer}
+use Rattle.step_laws.specs.Walks.{IsWalk, ThreadChange, after_thread}
+use Rattle.step_laws.specs.Walks.ThreadChange.{app_over, app_started, member_added, set_made}
+use Rattle.kernel_types.specs.Objects.{on_set}
+use Rattle.kernel_types.specs.Sets.{new_member, with_member}
+use Rattle.step_laws.proofs.Invariants.{Invariant, holds_along, step_keeps, walk_keeps}
+use Rattle.step_laws.proofs.Shapes.{Shape, by_shapes, shaped, swept_by_shapes}
+use Rattle.step_laws.proofs.Shapes.Shape.{of_all, of_apps, of_fewer, of_more, of_one, of_port}
 
 -- Rising numbers.
 
@@ -132,65 +138,46 @@ rises_published c rises port =
 rises_same : (c d : CoreState) → (d.objects ≡ c.objects) × (d.next ≡ c.next) → Rises c → Rises d
 rises_same c d same rises = subst (λ (n : ℕ). RisesFrom 0 d.objects n) (sym same.1) (subst (λ objects. RisesFrom 0 objects c.next) (sym same.0) rises)
 
-rising : Kept Nothing
-rising = record {
-  holds = λ x c. Rises c;
-  moved = λ x seqs. x;
-  still = λ x c k. k;
-  both = λ x opened retired. refl;
-  changed_one = λ x c k f quiet id. rises_changed f 0 c.objects c.next id k;
-  changed_all = λ x c k h keeps quiet. rises_mapped h keeps 0 c.objects c.next k;
-  fewer = λ x c k p. rises_filtered (λ object. p object.id) 0 c.objects c.next k;
-  one_more = λ x c k b fresh. rises_appended 0 c.objects c.next _ (c.next + 1) k (omega arith, omega arith);
-  published_port = λ x c k port. rises_published c k port;
-  sent = λ x c k bytes parts id end is. rises_changed (on_end (with_message bytes parts)) 0 c.objects c.next id k;
-  opened = λ x c k number message id end is first. rises_changed (on_end (with_opened number)) 0 c.objects c.next id k;
-  retired = λ x c k number message id end is first. rises_changed (on_end (without_opened number)) 0 c.objects c.next id k;
-  bridged = λ x c k ends. k;
-  tabled = λ x c k change app. k;
-  reported = λ x c k app handle. k;
-  acted = λ x c k change thread. k;
-  begun = λ x c k app. rises_same c (started app c) (same_started app c) k;
-  over = λ x c k app. rises_same c (application_ended app c) (same_ended app c) k;
-  idled = λ x c k deadline. rises_same c (core_idle deadline c) (same_idle c deadline) k;
-}
+shape_rises : (c : CoreState) → Rises c → (shape : Shape c) → Rises (shaped c shape)
+shape_rises c k (of_apps apps) = k
+shape_rises c k (of_one f id) = rises_changed f 0 c.objects c.next id k
+shape_rises c k (of_all f) = rises_mapped (on_body f) (λ object. refl) 0 c.objects c.next k
+shape_rises c k (of_fewer p) = rises_filtered (λ object. p object.id) 0 c.objects c.next k
+shape_rises c k (of_more b) = rises_appended 0 c.objects c.next _ (c.next + 1) k (omega arith, omega arith)
+shape_rises c k (of_port port) = rises_published c k port
 
-stepped_rises : (o : Option Stepped) (r : Stepped) → o ≡ Some r → StepKeeps Nothing rising tt o → HasRisingNumbers r.state
-unfolding rising
-stepped_rises None r is k = absurd (cc)
-stepped_rises (Some stepped) r is k =
-    let same : stepped ≡ r = cc in
-    subst (λ (x : Stepped). HasRisingNumbers x.state) same k
+thread_rises : (app thread : ℕ) (asked : Call) (said : Answer) (c : CoreState) → Rises c → (change : ThreadChange app thread asked said c) → Rises (after_thread app thread asked said c change)
+thread_rises app thread asked said c k (set_made is made room) = rises_appended 0 c.objects c.next _ (c.next + 1) k (omega arith, omega arith)
+thread_rises app thread asked said c k (member_added held handle mask cookie id set entry is here may) =
+    rises_changed (on_set (with_member (new_member handle entry.object mask cookie))) 0 c.objects c.next id k
+thread_rises app thread asked said c k (app_started place was there still connects) = rises_same c (started place c) (same_started place c) k
+thread_rises app thread asked said c k (app_over ends) = rises_same c (application_ended app c) (same_ended app c) k
+thread_rises app thread asked said c k _ = k
+
+pub rising : Invariant
+rising = record {
+  holds = Rises;
+  small = λ by c k made change. by_shapes Rises shape_rises by c k change;
+  call = thread_rises;
+  resumed = λ thread c k. k;
+  served = λ place c k. rises_same c (started place c) (same_started place c) k;
+  bridged = λ end c k given. k;
+  unbridged = λ end c k. k;
+  passed = λ deadline c k. rises_same c (core_idle deadline c) (same_idle c deadline) k;
+  swept = swept_by_shapes Rises shape_rises;
+}
 
 pub steps_rise : (s : State) (e : Event) (r : Stepped) → HasRisingNumbers s → step s e ≡ Some r → HasRisingNumbers r.state
 unfolding rising
-steps_rise s e r rises is = stepped_rises (step s e) r is (step_keeps Nothing rising tt s rises e)
+steps_rise s e r rises is = step_keeps rising s e r is rises
 
--- What the bridge asks of the core, and time that passes, keep the numbers rising.
-
-pub connected_rises : (c made : CoreState) (path : List ℕ) → Rises c → ns_connect c path ≡ Ok made → Rises made
+pub walk_rises : {asked : Option Call} {seqs : Seqs} (c d : CoreState) → IsWalk asked c seqs d → Rises c → Rises d
 unfolding rising
-connected_rises c made path rises is = made_kept Nothing rising tt (ns_connect c path) made (ns_connect_keeps Nothing rising tt c rises path) is
+walk_rises c d walked k = walk_keeps rising c d walked k
 
-pub pushed_rises : (c : CoreState) (end : ℕ) (bytes : List ℕ) → Rises c → Rises (ns_push c end bytes).core
-unfolding rising
-pushed_rises c end bytes rises = ns_push_keeps Nothing rising tt c rises end bytes
-
-pub taken_rises : (c : CoreState) (end : ℕ) → Rises c → Rises (ns_take c end).core
-unfolding rising
-taken_rises c end rises = ns_take_keeps Nothing rising tt c rises end
-
-pub dropped_rises : (c : CoreState) (broken : Bool) (end : ℕ) → Rises c → Rises (ns_drop broken end c)
-unfolding rising
-dropped_rises c broken end rises = ns_drop_kept Nothing rising tt c rises broken end
-
-pub idled_rises : (c : CoreState) (clock : Option ℕ) → Rises c → Rises (sweep (core_idle clock c))
-unfolding rising
-idled_rises c clock rises = swept_kept Nothing rising tt (core_idle clock c) (rises_same c (core_idle clock c) (same_idle c clock) rises)
-
-pub histories_rise : (scene : SceneValue) (entries : List Entry) → Legal (opening scene) entries → HasRisingNumbers (state_after (opening scene) entries)
+pub histories_rise : (scene : SceneValue) (entries : List Entry) → HasRisingNumbers (state_after (opening scene) entries)
 unfolding rising opening
-histories_rise scene entries legal = history_keeps Nothing rising tt (opening scene) (omega arith) entries legal
+histories_rise scene entries = holds_along rising (opening scene) entries (omega arith)
 
 -- Numbers that are spent.
 
@@ -240,27 +227,35 @@ spent_published number c k port =
 spent_same : (number : ℕ) (c d : CoreState) → (d.objects ≡ c.objects) × (d.next ≡ c.next) → Spent number c → Spent number d
 spent_same number c d same k = record { given = omega (arith, same.1, k.given); gone = ap (λ objects. found objects number) same.0 ∙ k.gone }
 
-spending : ℕ → Kept Nothing
+shape_spends : (number : ℕ) (c : CoreState) → Spent number c → (shape : Shape c) → Spent number (shaped c shape)
+shape_spends number c k (of_apps apps) = record { given = k.given; gone = k.gone }
+shape_spends number c k (of_one f id) = record { given = k.given; gone = gone_changed f c.objects id number k.gone }
+shape_spends number c k (of_all f) = record { given = k.given; gone = found_map (on_body f) (λ object. refl) c.objects number ∙ ap (λ o. option_map (on_body f) o) k.gone }
+shape_spends number c k (of_fewer p) = record { given = k.given; gone = gone_filtered p c.objects number k.gone }
+shape_spends number c k (of_more b) = record { given = omega (arith, k.given); gone = gone_appended c.objects _ number k.gone (gone_first _ [] number k.given refl) }
+shape_spends number c k (of_port port) = spent_published number c k port
+
+thread_spends : (number app thread : ℕ) (asked : Call) (said : Answer) (c : CoreState) → Spent number c → (change : ThreadChange app thread asked said c)
+    → Spent number (after_thread app thread asked said c change)
+thread_spends number app thread asked said c k (set_made is made room) =
+    record { given = omega (arith, k.given); gone = gone_appended c.objects _ number k.gone (gone_first _ [] number k.given refl) }
+thread_spends number app thread asked said c k (member_added held handle mask cookie id set entry is here may) =
+    record { given = k.given; gone = gone_changed (on_set (with_member (new_member handle entry.object mask cookie))) c.objects id number k.gone }
+thread_spends number app thread asked said c k (app_started place was there still connects) = spent_same number c (started place c) (same_started place c) k
+thread_spends number app thread asked said c k (app_over ends) = spent_same number c (application_ended app c) (same_ended app c) k
+thread_spends number app thread asked said c k _ = record { given = k.given; gone = k.gone }
+
+spending : ℕ → Invariant
 spending number = record {
-  holds = λ x c. Spent number c;
-  moved = λ x seqs. x;
-  still = λ x c k. k;
-  both = λ x opened retired. refl;
-  changed_one = λ x c k f quiet id. record { given = k.given; gone = gone_changed f c.objects id number k.gone };
-  changed_all = λ x c k h keeps quiet. record { given = k.given; gone = found_map h keeps c.objects number ∙ ap (λ o. option_map h o) k.gone };
-  fewer = λ x c k p. record { given = k.given; gone = gone_filtered p c.objects number k.gone };
-  one_more = λ x c k b fresh. record { given = omega (arith, k.given); gone = gone_appended c.objects _ number k.gone (gone_first _ [] number k.given refl) };
-  published_port = λ x c k port. spent_published number c k port;
-  sent = λ x c k bytes parts id end is. record { given = k.given; gone = gone_changed (on_end (with_message bytes parts)) c.objects id number k.gone };
-  opened = λ x c k n message id end is first. record { given = k.given; gone = gone_changed (on_end (with_opened n)) c.objects id number k.gone };
-  retired = λ x c k n message id end is first. record { given = k.given; gone = gone_changed (on_end (without_opened n)) c.objects id number k.gone };
-  bridged = λ x c k ends. record { given = k.given; gone = k.gone };
-  tabled = λ x c k change app. record { given = k.given; gone = k.gone };
-  reported = λ x c k app handle. record { given = k.given; gone = k.gone };
-  acted = λ x c k change thread. record { given = k.given; gone = k.gone };
-  begun = λ x c k app. spent_same number c (started app c) (same_started app c) k;
-  over = λ x c k app. spent_same number c (application_ended app c) (same_ended app c) k;
-  idled = λ x c k deadline. spent_same number c (core_idle deadline c) (same_idle c deadline) k;
+  holds = Spent number;
+  small = λ by c k made change. by_shapes (Spent number) (shape_spends number) by c k change;
+  call = thread_spends number;
+  resumed = λ thread c k. record { given = k.given; gone = k.gone };
+  served = λ place c k. spent_same number c (started place c) (same_started place c) k;
+  bridged = λ end c k given. record { given = k.given; gone = k.gone };
+  unbridged = λ end c k. record { given = k.given; gone = k.gone };
+  passed = λ deadline c k. spent_same number c (core_idle deadline c) (same_idle c deadline) k;
+  swept = swept_by_shapes (Spent number) (shape_spends number);
 }
 
 there_is : (objects : List Object) (number : ℕ) → is_there objects number ≡ is_some (found objects number)
@@ -278,18 +273,10 @@ inside number s spent = record { given = spent.given; gone = none_found (found s
 outside : (number : ℕ) (s : State) → Spent number s.core → IsSpent number s
 outside number s k = record { given = k.given; gone = there_is s.core.objects number ∙ ap is_some k.gone }
 
-stepped_spent : (number : ℕ) (o : Option Stepped) (r : Stepped) → o ≡ Some r → StepKeeps Nothing (spending number) tt o → Spent number r.state.core
-unfolding spending
-stepped_spent number None r is k = absurd (cc)
-stepped_spent number (Some stepped) r is k =
-    let same : stepped ≡ r = cc in
-    subst (λ (x : Stepped). Spent number x.state.core) same k
-
 pub steps_spend : (s : State) (e : Event) (r : Stepped) (number : ℕ) → step s e ≡ Some r → IsSpent number s → IsSpent number r.state
 unfolding spending
-steps_spend s e r number is spent = outside number r.state (stepped_spent number (step s e) r is (step_keeps Nothing (spending number) tt s (inside number s spent) e))
+steps_spend s e r number is spent = outside number r.state (step_keeps (spending number) s e r is (inside number s spent))
 
-pub histories_spend : (s : State) (entries : List Entry) (number : ℕ) → Legal s entries → IsSpent number s → IsSpent number (state_after s entries)
+pub histories_spend : (s : State) (entries : List Entry) (number : ℕ) → IsSpent number s → IsSpent number (state_after s entries)
 unfolding spending
-histories_spend s entries number legal spent =
-    outside number (state_after s entries) (history_keeps Nothing (spending number) tt s (inside number s spent) entries legal)
+histories_spend s entries number spent = outside number (state_after s entries) (holds_along (spending number) s entries (inside number s spent))

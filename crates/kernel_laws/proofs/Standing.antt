@@ -3,7 +3,20 @@ use Rattle.std.proofs.Common.{◌≡◌, ℕ, ◌+◌, ◌==◌, true, false, co
 use Rattle.std.specs.Prelude.{slice_get}
 use Rattle.std.specs.Option.{option_map}
 use Rattle.kernel_values.specs.declared.state.CoreState.{CoreState}
-use Rattle.kernel_laws.proofs.Walk.{Kept, StepKeeps, step_keeps}
+use Rattle.kernel_values.specs.declared.call.Call.{Call}
+use Rattle.kernel_values.specs.declared.reply.Answer.{Answer}
+use Rattle.kernel_values.specs.declared.state.Activity.{Activity}
+use Rattle.kernel_values.specs.declared.state.TableEntry.{TableEntry}
+use Rattle.kernel_types.specs.Sweep.{kept, pruned, sweep}
+use Rattle.kernel_types.specs.Tables.{with_table}
+use Rattle.kernel_types.specs.Threads.{running_activity, waiting_activity, with_activity}
+use Rattle.step_laws.specs.SmallChanges.{SmallChange, after}
+use Rattle.step_laws.specs.SmallChanges.SmallChange.{cookie_changed, end_accepted, entry_installed, entry_removed, last_changed, parts_installed}
+use Rattle.step_laws.specs.Walks.{ThreadChange, after_thread, asked_by}
+use Rattle.step_laws.specs.Walks.ThreadChange.{app_over, app_started, member_added, set_made, thread_over, wait_begun}
+use Rattle.step_laws.proofs.Invariants.{Invariant, walk_keeps}
+use Rattle.step_laws.proofs.Leaving.{accept_keeps}
+use Rattle.step_laws.proofs.Steps.{StepWalks, step_walks}
 use Rattle.kernel_values.specs.declared.world.World.{World}
 use Rattle.kernel_types.specs.Objects.{map_at}
 use Rattle.kernel_types.specs.Tables.{table_changed}
@@ -58,6 +71,12 @@ module _ (ms : List Manifest) (os : List ℕ) where
   threads_changed f same apps threads k =
       record { manifests_are = k.manifests_are; owners_are = mapped_same (λ (thread : Thread). thread.app) f same threads ∙ k.owners_are }
 
+  tabled : (c : CoreState) → StandIn ms os c → (app : ℕ) (change : List TableEntry → List TableEntry) → StandIn ms os (with_table change app c)
+  tabled c k app change = app_changed (table_changed change) (λ a. refl) c.apps c.threads k app
+
+  acted : (c : CoreState) → StandIn ms os c → (change : Activity → Activity) (thread : ℕ) → StandIn ms os (with_activity change thread c)
+  acted c k change thread = thread_changed (activity_changed change) (λ t. refl) c.apps c.threads k thread
+
   begun : (app : ℕ) (c : CoreState) → StandIn ms os c → StandIn ms os (started app c)
   unfolding started
   begun app c k =
@@ -87,32 +106,42 @@ abbrev pub ClientsStay : State → Option Stepped → Type 0
 ClientsStay s None = Unit {0}
 ClientsStay s (Some stepped) = map nobody stepped.state.world.clients ≡ map nobody s.world.clients
 
-abbrev Unit₀ : Type 0
-Unit₀ = Unit {0}
+module _ (ms : List Manifest) (os : List ℕ) where
+  small_stands : (by : Option ℕ) (c : CoreState) → StandIn ms os c → (change : SmallChange by c) → StandIn ms os (after by c change)
+  small_stands by c k (cookie_changed app of_app handle cookie entry held) = tabled ms os c k app _
+  small_stands by c k (entry_removed app of_app handle entry held) = tabled ms os c k app _
+  small_stands by c k (entry_installed app of_app object nameable room) = tabled ms os c k app _
+  small_stands by c k (parts_installed app of_app id number count end message there is_open room) = tabled ms os c k app _
+  small_stands by c k (last_changed app of_app entry first) = app_changed ms os (λ a. record a { last = Some entry.handle }) (λ a. refl) c.apps c.threads k app
+  small_stands by c k (end_accepted id server rest port there first) = accept_keeps (StandIn ms os) (λ d objects l. l) id server rest c k
+  small_stands by c k _ = k
 
--- every change keeps the manifests and whose each thread is
-standings : List Manifest → List ℕ → Kept Unit₀
-standings ms os = record {
-  holds = λ x c. StandIn ms os c;
-  moved = λ x seqs. x;
-  still = λ x c k. k;
-  both = λ x opened retired. refl;
-  changed_one = λ x c k f quiet id. k;
-  changed_all = λ x c k h keeps quiet. k;
-  fewer = λ x c k p. k;
-  one_more = λ x c k b fresh. k;
-  published_port = λ x c k port. k;
-  sent = λ x c k bytes parts id end is. k;
-  opened = λ x c k number message id end is first. k;
-  retired = λ x c k number message id end is first. k;
-  bridged = λ x c k ends. k;
-  tabled = λ x c k change app. app_changed ms os (table_changed change) (λ a. refl) c.apps c.threads k app;
-  reported = λ x c k app handle. app_changed ms os (λ a. record a { last = Some handle }) (λ a. refl) c.apps c.threads k app;
-  acted = λ x c k change thread. thread_changed ms os (activity_changed change) (λ t. refl) c.apps c.threads k thread;
-  begun = λ x c k app. begun ms os app c k;
-  over = λ x c k app. over ms os app c k;
-  idled = λ x c k deadline. idle_stands ms os c k deadline;
-}
+  thread_stands : (app thread : ℕ) (asked : Call) (said : Answer) (c : CoreState) → StandIn ms os c → (change : ThreadChange app thread asked said c)
+      → StandIn ms os (after_thread app thread asked said c change)
+  thread_stands app thread asked said c k (set_made is made room) = tabled ms os c k app _
+  thread_stands app thread asked said c k (member_added held handle mask cookie id set entry is here may) = k
+  thread_stands app thread asked said c k (wait_begun on awaits goes is) = acted ms os c k (waiting_activity _) thread
+  thread_stands app thread asked said c k (app_started place was there still connects) = begun ms os place c k
+  thread_stands app thread asked said c k (thread_over ends) = acted ms os c k ended_activity thread
+  thread_stands app thread asked said c k (app_over ends) = over ms os app c k
+
+  swept_stands : (c : CoreState) → StandIn ms os c → StandIn ms os (sweep c)
+  unfolding sweep pruned kept
+  swept_stands c k = k
+
+  -- every change keeps the manifests and whose each thread is
+  standing : Invariant
+  standing = record {
+    holds = StandIn ms os;
+    small = λ by c k made change. small_stands by c k change;
+    call = thread_stands;
+    resumed = λ thread c k. acted ms os c k running_activity thread;
+    served = λ place c k. begun ms os place c k;
+    bridged = λ end c k given. k;
+    unbridged = λ end c k. k;
+    passed = λ deadline c k. idle_stands ms os c k deadline;
+    swept = swept_stands;
+  }
 
 in_world_stay : (s : State) (o : Option Outcome) → ClientsStay s (option_map (in_world s.world) o)
 in_world_stay s None = tt
@@ -156,10 +185,13 @@ StepStands s None = Unit {0}
 StepStands s (Some stepped) = StandIn (map (λ app. app.manifest) s.core.apps) (map (λ thread. thread.app) s.core.threads) stepped.state.core
 
 pub step_stands : (s : State) (ev : Event) → StepStands s (step s ev)
-unfolding standings
+unfolding standing
 step_stands s ev =
     let ms : List Manifest = map (λ app. app.manifest) s.core.apps in
     let os : List ℕ = map (λ thread. thread.app) s.core.threads in
-    let P : Option Stepped → Type 0 = λ o. StepKeeps Unit₀ (standings ms os) tt o → StepStands s o in
-    let go : (o : Option Stepped) → P o = λ o. elim o as (λ v. P v) [ None ↦ (λ k. tt) | Some stepped ↦ (λ k. k) ] in
-    go (step s ev) (step_keeps Unit₀ (standings ms os) tt s (record { manifests_are = refl; owners_are = refl }) ev)
+    let P : Option Stepped → Type 0 = λ o. StepWalks (asked_by ev) s.core o → StepStands s o in
+    let go : (o : Option Stepped) → P o = λ o. elim o as (λ v. P v) [
+      | None ↦ (λ walks. tt)
+      | Some stepped ↦ (λ walks. walk_keeps (standing ms os) s.core stepped.state.core walks (record { manifests_are = refl; owners_are = refl }))
+    ] in
+    go (step s ev) (step_walks s ev)

@@ -26,50 +26,6 @@ Within objects = AllByRecursion (λ object. IsBodyWithin object.body) objects
 abbrev pub WithinCore : CoreState → Type 0
 WithinCore c = Within c.objects
 
--- an outcome leaves objects within the limits, and its answer is small and fits in the room
-pub record FineIn (room : Room) (outcome : Outcome) : Type 0 where
-  pub within : Within outcome.core.objects
-  pub small : IsSmallAnswer outcome.answer
-  pub fits : FitsIn room outcome.answer
-
-abbrev pub Fine : Outcome → Type 0
-Fine outcome = FineIn no_room outcome
-
-pub given : (reply : Reply) → bytes_of_reply reply ≤ 0 → handles_of_reply reply ≤ 8 → listed_in_reply reply ≤ 0 → (seqs : Seqs) (c : CoreState) → WithinCore c
-    → Fine (gives_with reply seqs c)
-given reply bytes handles listed seqs c w =
-    record { within = w; small = record { bytes = omega arith; handles = handles }; fits = record { bytes = bytes; handles = listed } }
-
-pub refused_in : (room : Room) (errno : Errno) (c : CoreState) → WithinCore c → FineIn room (refuses errno c)
-refused_in room errno c w = record { within = w; small = record { bytes = omega arith; handles = omega arith }; fits = record { bytes = omega arith; handles = omega arith } }
-
-pub refused : (errno : Errno) (c : CoreState) → WithinCore c → Fine (refuses errno c)
-refused errno c w = refused_in no_room errno c w
-
-fine_if_in : (room : Room) (b : Bool) (x y : Outcome) → (b ≡ true → FineIn room x) → (b ≡ false → FineIn room y) → FineIn room (if b then x else y)
-fine_if_in room b x y one other =
-    let P : Bool → Type 0 = λ v. b ≡ v → FineIn room (cond v x y) in
-    let go : (v : Bool) → P v = λ v. elim v as (λ w. P w) [ true ↦ (λ is. one is) | false ↦ (λ is. other is) ] in
-    go b refl
-
-pub fine_if : (b : Bool) (x y : Outcome) → (b ≡ true → Fine x) → (b ≡ false → Fine y) → Fine (if b then x else y)
-fine_if b x y one other = fine_if_in no_room b x y one other
-
-pub refused_unless_in : (room : Room) (b : Bool) (errno : Errno) (c : CoreState) (y : Outcome) → WithinCore c → (b ≡ false → FineIn room y)
-    → FineIn room (if b then refuses errno c else y)
-refused_unless_in room b errno c y w other = fine_if_in room b (refuses errno c) y (λ is. refused_in room errno c w) other
-
-pub refused_unless : (b : Bool) (errno : Errno) (c : CoreState) (y : Outcome) → WithinCore c → (b ≡ false → Fine y) → Fine (if b then refuses errno c else y)
-refused_unless b errno c y w other = refused_unless_in no_room b errno c y w other
-
--- an answer that lists bytes and handles
-pub lists : (bytes handles : List ℕ) → length bytes ≤ 65536 → length handles ≤ 8 → (c : CoreState) → WithinCore c → FineIn full_room (gives (reply.Bytes bytes handles) c)
-lists bytes handles bytes_few handles_few c w = record {
-  within = w;
-  small = record { bytes = bytes_few; handles = handles_few };
-  fits = record { bytes = bytes_few; handles = handles_few };
-}
-
 -- Lists.
 
 pub all_find : {X : Type 0} (P : X → Type 0) (p : X → Bool) (xs : List X) → AllByRecursion P xs → (x : X) → find p xs ≡ Some x → P x

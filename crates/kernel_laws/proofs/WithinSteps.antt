@@ -1,4 +1,4 @@
--- Every step leaves the objects within their limits, and answers little.
+-- Every step leaves a state within the limits, and answers little.
 use Rattle.std.proofs.Common.{◌≡◌, ◌≤◌, ◌<◌, ℕ, ◌+◌, ◌==◌, ◌&&◌, Bool, true, false, cond, not, length, map, Option, Some, None, refl, sym, ◌∙◌, ap, subst, arith, tests, length-append}
 use Rattle.std.specs.Prelude.{nat_le, slice_get}
 use Rattle.std.specs.Option.{option_map}
@@ -25,100 +25,25 @@ use Rattle.kernel_types.specs.Limits.{FitsIn, Room, full_room, no_room, path_roo
 use Rattle.kernel_types.specs.Outcome.{Outcome}
 use Rattle.kernel_types.specs.Step.{Stepped, beside_core, client_begin, client_number, client_resume, client_resume_of, client_status, device_stepped, full_step, idle, idle_lawful, idle_until, in_world, is_built_event, is_thread, next_deadline, statuses, step, world_idle}
 use Rattle.kernel_types.specs.Waits.{end_of_wait}
-use Rattle.step_laws.proofs.Bridged.{DeviceKeepsIf, device_keeps}
+use Rattle.step_laws.proofs.Bridged.{DeviceKeepsIf, any_change, device_keeps}
 use Rattle.kernel_laws.proofs.Within.{WithinCore}
-use Rattle.kernel_laws.proofs.WithinBridge.{swept_within, within_after, within_device}
-use Rattle.kernel_laws.proofs.WithinOthers.{cookie_fine, close_fine, dup_fine, set_fine, add_fine, del_fine, mod_fine, memref_fine, mread_fine, mwrite_fine, wait_fine, wait_any_fine, exit_fine, finish_fine}
-use Rattle.kernel_laws.proofs.WithinChannels.{send_fine, get_fine, read_fine, put_fine}
-use Rattle.kernel_laws.proofs.WithinConnections.{FineIfIn, FineIf, port_fine, connect_fine, accept_fine, end_of_wait_fine}
 use Rattle.kernel_laws.proofs.Worlds.{ActsIf, Inboxes, InboxesOf, begin_acts, resume_of_acts}
-
-pub idle_within : (c : CoreState) → WithinCore c → (deadline : Option ℕ) → WithinCore (core_idle deadline c)
-unfolding core_idle
-idle_within c w None = w
-idle_within c w (Some deadline) = w
-
-act_fine : (c : CoreState) → WithinCore c → (thread app : ℕ) (asked : Call) → FineIfIn (room_of_call asked) (act c thread app asked)
-unfolding act
-act_fine c w thread app (call.PortCreate path bufs size flags) = port_fine c w app path bufs size flags
-act_fine c w thread app (call.Connect path flags) = connect_fine c w thread app path flags
-act_fine c w thread app (call.Accept port) = accept_fine c w app port
-act_fine c w thread app (call.Send chan bytes parts) = send_fine c w app chan bytes parts
-act_fine c w thread app (call.Get chan) = get_fine c w app chan
-act_fine c w thread app (call.Read chan id offset room parts) = read_fine c w app chan id offset room parts
-act_fine c w thread app (call.Put chan id) = put_fine c w app chan id
-act_fine c w thread app (call.SetCookie handle cookie) = cookie_fine c w app handle cookie
-act_fine c w thread app (call.Close handle) = close_fine c w app handle
-act_fine c w thread app (call.Dup handle) = dup_fine c w app handle
-act_fine c w thread app call.SetCreate = set_fine c w app
-act_fine c w thread app (call.SetAdd set handle mask cookie) = add_fine c w app set handle mask cookie
-act_fine c w thread app (call.SetDel set label) = del_fine c w app set label
-act_fine c w thread app (call.SetMod set label mask cookie) = mod_fine c w app set label mask cookie
-act_fine c w thread app (call.MemCreate size flags) = memref_fine c w app size flags
-act_fine c w thread app (call.MemRead handle offset len) = mread_fine c w app handle offset len
-act_fine c w thread app (call.MemWrite handle offset bytes) = mwrite_fine c w app handle offset bytes
-act_fine c w thread app (call.Wait handle timeout) = wait_fine c w thread app handle timeout
-act_fine c w thread app (call.WaitAny timeout) = wait_any_fine c w thread app timeout
-act_fine c w thread app (call.Exit code) = exit_fine c w app
-act_fine c w thread app call.Finish = finish_fine c w thread app
-act_fine c w thread app (call.NsConnect path) = tt
-act_fine c w thread app (call.NsSend conn bytes) = tt
-act_fine c w thread app (call.NsRecv conn timeout) = tt
-act_fine c w thread app (call.NsClose conn) = tt
-act_fine c w thread app (call.NsPoke addr bytes) = tt
-act_fine c w thread app (call.NsKick queue head) = tt
-
-swept_fine : (room : Room) (o : Option Outcome) → FineIfIn room o → FineIfIn room (option_map swept o)
-swept_fine room None f = tt
-swept_fine room (Some outcome) f = record { within = swept_within outcome.core f.within; small = f.small; fits = f.fits }
-
-resumed_fine : (thread : ℕ) (o : Option Outcome) → FineIf o → FineIf (option_map (resumed thread) o)
-resumed_fine thread None f = tt
-resumed_fine thread (Some outcome) f = record { within = swept_within _ f.within; small = f.small; fits = f.fits }
-
-begin_fine : (c : CoreState) → WithinCore c → (thread start : ℕ) (asked : Call) → FineIfIn (room_of_call asked) (core_begin c thread start asked)
-unfolding core_begin
-begin_fine c w thread start asked =
-    let doing : (app : ℕ) (a : Activity) → FineIfIn (room_of_call asked) (begin_as c thread start asked app a) =
-    λ app a. elim a as (λ v. FineIfIn (room_of_call asked) (begin_as c thread start asked app v)) [
-      | activity.Running running ↦ elim (running == start) as (λ b. FineIfIn (room_of_call asked) (cond b (option_map swept (act c thread app asked)) None)) [
-        | true ↦ swept_fine (room_of_call asked) (act c thread app asked) (act_fine c w thread app asked)
-        | false ↦ tt
-      ]
-      | activity.Off ↦ tt
-      | activity.Waiting waiting wait ↦ tt
-      | activity.Ended ended ↦ tt
-    ] in
-    elim (slice_get c.threads thread) as (λ o. FineIfIn (room_of_call asked) (begin_of c thread start asked o)) [ None ↦ tt | Some found ↦ doing found.app found.activity ]
-
-resume_fine : (c : CoreState) → WithinCore c → (thread start : ℕ) → FineIf (core_resume c thread start)
-unfolding core_resume
-resume_fine c w thread start =
-    let doing : (app : ℕ) (a : Activity) → FineIf (resume_as c thread start app a) =
-    λ app a. elim a as (λ v. FineIf (resume_as c thread start app v)) [
-      | activity.Waiting waiting wait ↦ elim (waiting == start) as (λ b. FineIf (cond b (option_map (resumed thread) (end_of_wait c app wait)) None)) [
-        | true ↦ resumed_fine thread (end_of_wait c app wait) (end_of_wait_fine c w app wait)
-        | false ↦ tt
-      ]
-      | activity.Off ↦ tt
-      | activity.Running running ↦ tt
-      | activity.Ended ended ↦ tt
-    ] in
-    elim (slice_get c.threads thread) as (λ o. FineIf (resume_of c thread start o)) [ None ↦ tt | Some found ↦ doing found.app found.activity ]
+use Rattle.kernel_laws.proofs.Answers.{AnswerFits, begin_fits, resume_fits}
 
 -- a state is within the limits
 pub record WithinState (s : State) : Type 0 where
   pub objects : WithinCore s.core
   pub inboxes : InboxesOf s.world
 
--- a step leaves a state within the limits, and its answer is small and fits in the room
+-- a step leaves the inboxes within the limits, and its answer is small and fits in the room
 abbrev pub StepFine : Room → Option Stepped → Type 0
 StepFine room None = Unit {0}
-StepFine room (Some stepped) = WithinState stepped.state × IsSmallAnswer stepped.answer × FitsIn room stepped.answer
+StepFine room (Some stepped) = InboxesOf stepped.state.world × IsSmallAnswer stepped.answer × FitsIn room stepped.answer
 
-in_world_fine : (room : Room) (world : World) → InboxesOf world → (o : Option Outcome) → FineIfIn room o → StepFine room (option_map (in_world world) o)
-in_world_fine room world inboxes None f = tt
-in_world_fine room world inboxes (Some outcome) f = (record { objects = f.within; inboxes = inboxes }, f.small, f.fits)
+in_world_fine : (room : Room) (world : World) → InboxesOf world → (o : Option Outcome) → ((outcome : Outcome) → o ≡ Some outcome → AnswerFits room outcome.answer)
+    → StepFine room (option_map (in_world world) o)
+in_world_fine room world inboxes None fits = tt
+in_world_fine room world inboxes (Some outcome) fits = (inboxes, (fits outcome refl).small, (fits outcome refl).fits)
 
 -- what fits in no room fits in any
 roomier : (room : Room) (o : Option Stepped) → StepFine no_room o → StepFine room o
@@ -128,7 +53,7 @@ roomier room (Some stepped) f = (f.0, f.1, record { bytes = omega (arith, f.2.by
 beside_fine : (room : Room) (s : State) → WithinState s → (o : Option Acted) → ActsIf room s.world o → StepFine room (option_map (beside_core s.core) o)
 beside_fine room s w None acts = tt
 beside_fine room s w (Some acted) acts =
-    (record { objects = w.objects; inboxes = acts.world.inboxes w.inboxes }, acts.small w.inboxes, acts.fits w.inboxes)
+    (acts.world.inboxes w.inboxes, acts.small w.inboxes, acts.fits w.inboxes)
 
 -- what a client's wait comes to fits in a client's room, since there is a client
 
@@ -161,10 +86,10 @@ client_resume_fine s w actor start other =
     let go : (o : Option ClientState) → P o = λ o. elim o as (λ v. P v) [ None ↦ (λ is. tt) | Some client ↦ ends client ] in
     go (slice_get s.world.clients (client_number s actor)) refl
 
-device_fine : (s : State) (w : WithinState s) (o : Option DeviceStep) → DeviceKeepsIf s (within_device s.core w.objects) o → StepFine path_room (option_map device_stepped o)
+device_fine : (s : State) (w : WithinState s) (o : Option DeviceStep) → DeviceKeepsIf s (any_change s.core) o → StepFine path_room (option_map device_stepped o)
 device_fine s w None keeps = tt
 device_fine s w (Some done) keeps = (
-  record { objects = within_after s.core w.objects _ keeps.kept; inboxes = subst (λ (d : Driver). Inboxes d.connections) (sym keeps.driver) w.inboxes },
+  subst (λ (d : Driver). Inboxes d.connections) (sym keeps.driver) w.inboxes,
   record { bytes = omega (arith, keeps.fits.bytes); handles = omega arith },
   keeps.fits,
 )
@@ -184,7 +109,7 @@ idle_inboxes (Some deadline) w inboxes = inboxes
 
 idle_fine : (s : State) → WithinState s → (deadline : Option ℕ) → StepFine no_room (Some (idle_until deadline s))
 idle_fine s w deadline = (
-  record { objects = swept_within (core_idle deadline s.core) (idle_within s.core w.objects deadline); inboxes = idle_inboxes deadline s.world w.inboxes },
+  idle_inboxes deadline s.world w.inboxes,
   idle_small deadline,
   idle_fits deadline,
 )
@@ -196,7 +121,7 @@ full_step_fine s w (event.Begin actor start asked) =
     let thread : Option Outcome = core_begin s.core actor.0 start asked in
     let client : Option Acted = client_begin s (client_number s actor.0) start asked in
     elim (is_thread s actor.0) as (λ b. StepFine room (cond b (option_map (in_world s.world) thread) (option_map (beside_core s.core) client))) [
-      | true ↦ in_world_fine room s.world w.inboxes thread (begin_fine s.core w.objects actor.0 start asked)
+      | true ↦ in_world_fine room s.world w.inboxes thread (begin_fits s.core w.objects actor.0 start asked)
       | false ↦ beside_fine room s w client (begin_acts s (client_number s actor.0) start asked)
     ]
 full_step_fine s w (event.Resume actor start) =
@@ -205,11 +130,11 @@ full_step_fine s w (event.Resume actor start) =
     let client : Option Stepped = option_map (beside_core s.core) (client_resume s (client_number s actor.0) start) in
     let P : Bool → Type 0 = λ b. is_thread s actor.0 ≡ b → StepFine room (cond b thread client) in
     let go : (b : Bool) → P b = λ b. elim b as (λ v. P v) [
-      | true ↦ (λ is. roomier room thread (in_world_fine no_room s.world w.inboxes (core_resume s.core actor.0 start) (resume_fine s.core w.objects actor.0 start)))
+      | true ↦ (λ is. roomier room thread (in_world_fine no_room s.world w.inboxes (core_resume s.core actor.0 start) (resume_fits s.core w.objects actor.0 start)))
       | false ↦ (λ other. client_resume_fine s w actor.0 start other)
     ] in
     go (is_thread s actor.0) refl
-full_step_fine s w event.Device = device_fine s w (device_step s) (device_keeps s (within_device s.core w.objects))
+full_step_fine s w event.Device = device_fine s w (device_step s) (device_keeps s (any_change s.core))
 full_step_fine s w event.Idle = elim (idle_lawful s) as (λ b. StepFine no_room (cond b (Some (idle s)) None)) [ true ↦ idle_fine s w (next_deadline s) | false ↦ tt ]
 
 pub step_fine : (s : State) → WithinState s → (ev : Event) → StepFine (room_of s ev) (step s ev)

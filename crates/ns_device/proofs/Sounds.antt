@@ -44,9 +44,9 @@ use Rattle.kernel_types.specs.Sending.{control_address}
 use Rattle.kernel_types.specs.Step.{Stepped as StepDone, device_stepped, full_step, step}
 use Rattle.kernel_types.specs.Sweep.{sweep}
 use Rattle.set_laws.specs.Soundness.{NamesAreGiven}
-use Rattle.set_laws.proofs.NamingCalls.{Given}
-use Rattle.set_laws.proofs.NamingSteps.{step_names}
-use Rattle.set_laws.proofs.BridgeSteps.{IfStepped}
+use Rattle.step_laws.proofs.Steps.{StepWalks, step_walks}
+use Rattle.set_laws.proofs.Naming.{Given}
+use Rattle.set_laws.proofs.NamingChanges.{walk_names}
 use Rattle.set_laws.proofs.Soundness.{apart, steps_keep_given, together}
 use Rattle.ns_device.specs.declared.told.Told.{Told}
 use Rattle.ns_device.specs.Named.{AreNamed, IsAmong}
@@ -285,13 +285,13 @@ abbrev GivenLeft : Option DeviceStep → Type 0
 GivenLeft None = Unit {0}
 GivenLeft (Some done) = Given done.state.core
 
-given_left : (o : Option DeviceStep) → IfStepped Given (option_map device_stepped o) → GivenLeft o
-given_left None names = tt
-given_left (Some done) names = names
+given_left : (s : State) → Given s.core → (o : Option DeviceStep) → StepWalks None s.core (option_map device_stepped o) → GivenLeft o
+given_left s names None walks = tt
+given_left s names (Some done) walks = walk_names s.core done.state.core walks names
 
 device_given : (s : State) → Given s.core → GivenLeft (device_step s)
 unfolding step full_step
-device_given s names = given_left (device_step s) (step_names s names event.Device)
+device_given s names = given_left s names (device_step s) (step_walks s event.Device)
 
 abbrev SoundLeft : Option Left → Type 0
 SoundLeft None = Unit {0}

@@ -15,8 +15,7 @@ use Rattle.kernel_types.specs.Opening.{opening, opening_core, without_clients}
 use Rattle.kernel_types.specs.Sweep.{sweep}
 use Rattle.kernel_laws.proofs.Small.{opening_within, steps_fit, steps_within}
 use Rattle.kernel_laws.proofs.Within.{WithinCore}
-use Rattle.kernel_laws.proofs.WithinBridge.{connected_within, ns_drop_within, ns_push_within, ns_take_within, swept_within}
-use Rattle.kernel_laws.proofs.WithinSteps.{idle_within}
+use Rattle.kernel_laws.proofs.WithinChanges.{connected_within, idle_within, ns_drop_within, ns_push_within, ns_take_within, swept_within}
 use Rattle.set_laws.specs.Soundness.{IsSound}
 use Rattle.set_laws.proofs.Bridging.{connected_sound, dropped_sound, idled_sound, pushed_sound, taken_sound}
 use Rattle.set_laws.proofs.Circles.{no_circle}
@@ -63,7 +62,7 @@ connected_orderly s made path is kept =
 
 pub pushed_orderly : (s : State) (end : ℕ) (bytes : List ℕ) → length bytes ≤ (ns_view s.core end).size → IsOrderly s → IsOrderly (with_core (ns_push s.core end bytes).core s)
 pushed_orderly s end bytes few kept =
-    orderly (with_core (ns_push s.core end bytes).core s) (within_by s (ns_push s.core end bytes).core kept (ns_push_within s.core (inside s kept) end bytes few)) (pushed_sound s end bytes kept.sound)
+    orderly (with_core (ns_push s.core end bytes).core s) (within_by s (ns_push s.core end bytes).core kept (ns_push_within s.core (inside s kept) end bytes few)) (pushed_sound s end bytes few kept.sound)
 
 pub taken_orderly : (s : State) (end : ℕ) → IsOrderly s → IsOrderly (with_core (ns_take s.core end).core s)
 taken_orderly s end kept =
@@ -76,4 +75,4 @@ dropped_orderly s broken end kept =
 pub idled_orderly : (s : State) (clock : Option ℕ) → IsOrderly s → IsOrderly (with_core (sweep (core_idle clock s.core)) s)
 idled_orderly s clock kept =
     orderly (with_core (sweep (core_idle clock s.core)) s)
-    (within_by s (sweep (core_idle clock s.core)) kept (swept_within (core_idle clock s.core) (idle_within s.core (inside s kept) clock))) (idled_sound s clock kept.sound)
+    (within_by s (sweep (core_idle clock s.core)) kept (swept_within (core_idle clock s.core) (idle_within clock s.core (inside s kept)))) (idled_sound s clock kept.sound)

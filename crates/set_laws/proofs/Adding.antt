@@ -175,6 +175,12 @@ unless b e c y short other =
     let go : (v : Bool) → P v = λ v. elim v as (λ w. P w) [ true ↦ (λ is. short) | false ↦ (λ is. other is) ] in
     go b refl
 
+-- a member that `add` lets in leaves chains short
+pub added_keeps_short : (objects : List Object) (id : ℕ) (m : Member) → HasShortChains objects → IsSet objects id → is_or_contains objects m.object id ≡ false
+    → nat_lt chain_limit (chain_through objects id m.object) ≡ false → HasShortChains (changed (on_set (with_member m)) objects id)
+added_keeps_short objects id m short is outside not_deep first sets chain =
+    omega (arith, chain_is_short objects id m short is outside (measured objects id m.object not_deep) first [] sets tt chain)
+
 member_keeps_short : (c : CoreState) → HasShortChains c.objects → (id : ℕ) (s : HandleSet) (m : Member) → IsSet c.objects id → HasShortChains (set_add_member c id s m).core.objects
 member_keeps_short c short id s m is =
     unless (is_or_contains c.objects m.object id) errno.InvalidArgs c _ short (λ outside.
@@ -182,7 +188,7 @@ member_keeps_short c short id s m is =
     unless (is_label_in s.members m.label) errno.AlreadyExists c _ short (λ new_label.
     unless (nat_lt chain_limit (chain_through c.objects id m.object)) errno.RecurseTooDeep c _ short (λ not_deep.
     unless (nat_le member_limit (length s.members)) errno.NoResources c _ short (λ room.
-    λ first sets chain. omega (arith, chain_is_short c.objects id m short is outside (measured c.objects id m.object not_deep) first [] sets tt chain))))))
+    added_keeps_short c.objects id m short is outside not_deep)))))
 
 to_keeps_short : (c : CoreState) → HasShortChains c.objects → (id : ℕ) (m : Member) (s : Option HandleSet) → set_of c.objects id ≡ s → HasShortChains (set_add_to c id s m).core.objects
 to_keeps_short c short id m None is = short

@@ -2,16 +2,11 @@ pub mod Counting
 pub mod Adding
 pub mod Shrinking
 pub mod Lessening
-pub mod Walk
 pub mod Deepening
 pub mod Circles
 pub mod Looking
 pub mod Lists
 pub mod Naming
-pub mod BridgeSteps
-pub mod NamingCalls
-pub mod NamingWaits
-pub mod NamingConnections
-pub mod NamingSteps
 pub mod Soundness
 pub mod Bridging
+pub mod NamingChanges

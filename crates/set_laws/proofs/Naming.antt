@@ -213,3 +213,7 @@ pub added_named : (n : ℕ) (c : CoreState) → Named n c → (b : Body) → Bod
 added_named n c k b below =
     let more : Named n _ = with_more n c k ((record { id = c.next; body = b }) ∷ []) (below, tt) in
     record { tables = more.tables; bridged = more.bridged; waits = more.waits; objects = more.objects }
+
+-- what is named has a number that was given
+abbrev pub Given : CoreState → Type 0
+Given c = Named c.next c

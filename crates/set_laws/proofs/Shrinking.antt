@@ -60,13 +60,31 @@ old_chain : (objects others : List Object) → ((a : ℕ) → Shrunk (set_of oth
 old_chain objects others shrunk first [] chain = (shrunk first).set chain
 old_chain objects others shrunk first (next ∷ sets) chain = ((shrunk first).members next chain.0, old_chain objects others shrunk next sets chain.1)
 
-pub deep_by : (c d : CoreState) → c.next ≤ d.next → ((a : ℕ) → Shrunk (as_set (found d.objects a)) (as_set (found c.objects a))) → Deep c → Deep d
-deep_by c d le by_found deep =
-    let shrunk : (a : ℕ) → Shrunk (set_of d.objects a) (set_of c.objects a) = shrunk_at c.objects d.objects by_found in
-    record {
-      short = λ first sets chain. deep.short first sets (old_chain c.objects d.objects shrunk first sets chain);
-      given = λ a b holds. omega (arith, deep.given a b ((shrunk a).members b holds), le);
-    }
+-- what of every set was there before, where no number is taken back
+pub record Shrinking (c d : CoreState) : Type 0 where
+  pub next : c.next ≤ d.next
+  pub less : (a : ℕ) → Shrunk (as_set (found d.objects a)) (as_set (found c.objects a))
+
+pub shrinking_both : (c b d : CoreState) → Shrinking c b → Shrinking b d → Shrinking c d
+shrinking_both c b d p q = record {
+  next = omega (arith, p.next, q.next);
+  less = λ a. record { members = λ x is. (p.less a).members x ((q.less a).members x is); set = λ is. (p.less a).set ((q.less a).set is) };
+}
+
+pub shrinking_same : (c d : CoreState) → (d.objects ≡ c.objects) × (d.next ≡ c.next) → Shrinking c d
+shrinking_same c d same = record {
+  next = omega (arith, same.1);
+  less = λ a. subst (λ (os : List Object). Shrunk (as_set (found os a)) (as_set (found c.objects a))) (sym same.0) (same_set (as_set (found c.objects a)));
+}
+
+pub short_by : (c d : CoreState) → Shrinking c d → HasShortChains c.objects → HasShortChains d.objects
+short_by c d shrinks short first sets chain = short first sets (old_chain c.objects d.objects (shrunk_at c.objects d.objects shrinks.less) first sets chain)
+
+pub deep_by : (c d : CoreState) → Shrinking c d → Deep c → Deep d
+deep_by c d shrinks deep = record {
+  short = short_by c d shrinks deep.short;
+  given = λ a b holds. omega (arith, deep.given a b ((shrunk_at c.objects d.objects shrinks.less a).members b holds), shrinks.next);
+}
 
 shrunk_one : (f : Body → Body) → Shrinks f → (o : Option Object) → Shrunk (as_set (option_map (on_body f) o)) (as_set o)
 shrunk_one f shrinks None = same_set None
@@ -106,24 +124,24 @@ no_set_first : (object : Object) (objects : List Object) (a : ℕ) → set_in ob
 no_set_first object objects a none rest =
     elim (object.id == a) as (λ b. as_set (cond b (Some object) (found objects a)) ≡ None) [ true ↦ none | false ↦ rest ]
 
-pub deep_added : (c : CoreState) (b : Body) → set_in b ≡ None → Deep c → Deep (added b c)
-deep_added c b none deep =
+pub shrinks_added : (c : CoreState) (b : Body) → set_in b ≡ None → Shrinking c (added b c)
+shrinks_added c b none =
     let one : Object = record { id = c.next; body = b } in
-    deep_by c (added b c) (omega arith) (λ a. shrunk_appended c.objects (one ∷ []) a (no_set_first one [] a none refl)) deep
+    record { next = omega arith; less = λ a. shrunk_appended c.objects (one ∷ []) a (no_set_first one [] a none refl) }
 
 no_servers : (port : Port) (first : ℕ) (all clients : List ℕ) (a : ℕ) → as_set (found (map (new_server port first all) clients) a) ≡ None
 no_servers port first all [] a = refl
 no_servers port first all (client ∷ clients) a =
     no_set_first (new_server port first all client) (map (new_server port first all) clients) a refl (no_servers port first all clients a)
 
-pub deep_published : (c : CoreState) (port : Port) → Deep c → Deep (publish port c)
-deep_published c port deep =
+pub shrinks_published : (c : CoreState) (port : Port) → Shrinking c (publish port c)
+shrinks_published c port =
     let clients : List ℕ = admitted port c.objects in
     let first : ℕ = c.next + 1 in
     let mid : CoreState = record c { objects = map (decided port first clients) c.objects } in
-    let here : Deep mid = deep_by c mid (omega arith) (shrunk_mapped (decided port first clients) (λ object. refl) (λ object. calm_end (decided_end port first clients object.id) object.body) c.objects) deep in
-    deep_by mid (publish port c) (omega arith)
-    (λ a. shrunk_appended mid.objects _ a (no_set_first _ (map (new_server port first clients) clients) a refl (no_servers port first clients clients a))) here
+    shrinking_both c mid (publish port c)
+    (record { next = omega arith; less = shrunk_mapped (decided port first clients) (λ object. refl) (λ object. calm_end (decided_end port first clients object.id) object.body) c.objects })
+    (record { next = omega arith; less = λ a. shrunk_appended mid.objects _ a (no_set_first _ (map (new_server port first clients) clients) a refl (no_servers port first clients clients a)) })
 
 module _ (c : CoreState) (more : List Object) (deep : Deep c) (members : (a b : ℕ) → HasMember more a b → HasMember c.objects a b)
     (set : (a : ℕ) → IsSet more a → IsSet c.objects a ⊎ (c.next ≡ a)) where

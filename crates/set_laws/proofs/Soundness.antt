@@ -33,10 +33,9 @@ use Rattle.set_laws.proofs.Circles.{no_circle, openings_short}
 use Rattle.set_laws.proofs.Counting.{first_or_later}
 use Rattle.set_laws.proofs.Deepening.{steps_keep_short}
 use Rattle.set_laws.proofs.Lists.{IfThere, all_appended, all_first, all_flat, all_last, all_mapped, all_unflat, all_unmapped, all_weaker}
-use Rattle.set_laws.proofs.Naming.{BodyBelow, MembersBelow, NamesBelow, TableBelow, set_named, table_named}
-use Rattle.set_laws.proofs.NamingCalls.{Given}
-use Rattle.set_laws.proofs.BridgeSteps.{IfStepped}
-use Rattle.set_laws.proofs.NamingSteps.{step_names}
+use Rattle.set_laws.proofs.Naming.{BodyBelow, Given, MembersBelow, NamesBelow, TableBelow, set_named, table_named}
+use Rattle.set_laws.proofs.NamingChanges.{walk_names}
+use Rattle.step_laws.proofs.Steps.{steps_walk}
 
 -- The entries that name objects, as one list and by where they stand.
 
@@ -146,14 +145,8 @@ openings_sound scene = record { rising = opening_rises scene; given = openings_g
 
 -- Steps.
 
-stepped_given : (o : Option Stepped) (r : Stepped) → o ≡ Some r → IfStepped Given o → Given r.state.core
-stepped_given None r is names = absurd (cc)
-stepped_given (Some stepped) r is names =
-    let same : stepped ≡ r = cc in
-    subst (λ (x : Stepped). Given x.state.core) same names
-
 pub steps_keep_given : (s : State) (e : Event) (r : Stepped) → NamesAreGiven s.core → step s e ≡ Some r → NamesAreGiven r.state.core
-steps_keep_given s e r given is = together r.state.core (stepped_given (step s e) r is (step_names s (apart s.core given) e))
+steps_keep_given s e r given is = together r.state.core (walk_names s.core r.state.core (steps_walk s e r is) (apart s.core given))
 
 pub steps_keep_sound : (s : State) (e : Event) (r : Stepped) → IsSound s → step s e ≡ Some r → IsSound r.state
 steps_keep_sound s e r sound is = record {

@@ -30,27 +30,36 @@ use Rattle.kernel_values.specs.declared.state.Connector.TheVariants as connector
 use Rattle.kernel_values.specs.declared.call.Call.TheVariants as call
 use Rattle.kernel_values.specs.declared.reply.Answer.{Answer}
 use Rattle.kernel_values.specs.declared.reply.Answer.TheVariants as answer
+use Rattle.kernel_types.specs.Sets.{set_create, set_add, set_add_entries, set_add_to, set_add_member, is_or_contains, is_label_in, chain_through, member_limit, new_member, with_member}
+use Rattle.kernel_types.specs.Objects.{added, set_changed, set_of, memory_of}
+use Rattle.kernel_types.specs.Events.{chain_limit}
+use Rattle.kernel_values.specs.declared.flags.Events.{Events}
+use Rattle.kernel_values.specs.declared.state.HandleSet.{HandleSet}
+use Rattle.kernel_values.specs.declared.state.Body.TheVariants as body
+use Rattle.std.specs.Prelude.{nat_lt, nat_le}
+use Rattle.std.proofs.Common.{length}
 use Rattle.step_laws.specs.SmallChanges.{IsGiven, is_to_port}
 use Rattle.step_laws.specs.SmallChanges.Nameable.{by_number}
 use Rattle.step_laws.specs.SmallChanges.SmallChange.{entry_installed, client_made, pair_made}
-use Rattle.step_laws.specs.Walks.{Awaits, Row, SmallWalk, ThreadChange, after_thread, is_connecting, moves_of, timeout_of}
+use Rattle.step_laws.specs.Walks.{MadeBy, MayJoin, Awaits, Row, SmallWalk, ThreadChange, after_thread, is_connecting, moves_of, timeout_of}
 use Rattle.step_laws.specs.Walks.Awaits.{for_any, for_connect, for_object}
 use Rattle.step_laws.specs.Walks.Row.{goes_on, stays}
-use Rattle.step_laws.specs.Walks.ThreadChange.{app_over, app_started, thread_over, wait_begun}
+use Rattle.step_laws.specs.Walks.ThreadChange.{app_over, app_started, member_added, set_made, thread_over, wait_begun}
+use Rattle.step_laws.proofs.Leaving.{untouched}
 use Rattle.step_laws.proofs.Outcomes.{Acts, Comes, Said, may_list}
 use Rattle.step_laws.proofs.Outcomes.Said.{says_no_list}
 use Rattle.step_laws.proofs.There.{client_given, pair_given}
-use Rattle.step_laws.proofs.Calls.{ReportGoes, accept_goes, add_goes, close_goes, cookie_goes, del_goes, dup_goes, get_goes, memref_goes, mod_goes, more, mread_goes, mwrite_goes, not_false, port_goes, put_goes, read_goes, report_goes, send_goes, set_goes}
+use Rattle.step_laws.proofs.Calls.{ReportGoes, accept_goes, close_goes, cookie_goes, del_goes, dup_goes, get_goes, memref_goes, mod_goes, more, mread_goes, mwrite_goes, not_false, port_goes, put_goes, read_goes, report_goes, send_goes}
 
 -- Calls that wait, start or end something.
 
-module _ (app thread : ℕ) (s : CoreState) where
+abbrev pub DoesIf : (app thread : ℕ) (s : CoreState) → Call → Option Outcome → Type 0
+DoesIf app thread s asked None = Unit {0}
+DoesIf app thread s asked (Some outcome) = Acts app thread asked s outcome
+
+module _ (app thread : ℕ) (s : CoreState) (who : (b : CoreState) → b.threads ≡ s.threads → MadeBy (Some app) b) where
   abbrev pub Does : Call → Outcome → Type 0
   Does asked outcome = Acts app thread asked s outcome
-
-  abbrev pub DoesIf : Call → Option Outcome → Type 0
-  DoesIf asked None = Unit {0}
-  DoesIf asked (Some outcome) = Does asked outcome
 
   -- tables and objects alone are changed
   at_once : {asked : Call} (outcome : Outcome) → SmallWalk (Some app) s (moves_of outcome.seqs) outcome.core → Said (Some app) (may_list asked) s outcome.answer → Does asked outcome
@@ -114,6 +123,49 @@ module _ (app thread : ℕ) (s : CoreState) where
   unfolding connect
   connect_goes c k path flags = without_if (not (is_path path)) errno.InvalidArgs c _ k (λ lawful. way_goes (way_of c path) c k path refl flags)
 
+  -- Sets.
+
+  -- one change that the call makes by itself
+  by_itself : {asked : Call} (outcome : Outcome) (c : CoreState) → SmallWalk (Some app) s (moves_of outcome.seqs) c → (change : ThreadChange app thread asked outcome.answer c)
+      → outcome.core ≡ after_thread app thread asked outcome.answer c change → Said (Some app) (may_list asked) s outcome.answer → Does asked outcome
+  by_itself outcome c k change is says = record { middle = c; walk = k; changes = goes_on outcome.core c (stays c refl) change is; says = says }
+
+  set_goes : (c : CoreState) → SmallWalk (Some app) s [] c → Does call.SetCreate (set_create c app)
+  unfolding set_create
+  set_goes c k =
+      let made : Outcome = gives (reply.Handle (free_handle (table_of c app))) (install app c.next (added (body.Set (record { members = [] })) c)) in
+      without_if (is_full (table_of c app)) errno.NoResources c made k (λ room. by_itself made c k (set_made refl (who c (untouched (Some app) s c k.row).threads) room) refl (says_no_list refl))
+
+  module _ (c : CoreState) (k : SmallWalk (Some app) s [] c) (held handle : ℕ) (mask : Events) (cookie : ℕ) where
+    add_member : (id : ℕ) (set : HandleSet) (entry : TableEntry) → set_of c.objects id ≡ Some set → entry_at (table_of c app) handle ≡ Some entry
+        → Does (call.SetAdd held handle mask cookie) (set_add_member c id set (new_member handle entry.object mask cookie))
+    add_member id set entry there here =
+        without_if (is_or_contains c.objects entry.object id) errno.InvalidArgs c _ k (λ apart.
+        without_if (is_some (memory_of c.objects entry.object)) errno.NotSupported c _ k (λ no_memory.
+        without_if (is_label_in set.members handle) errno.AlreadyExists c _ k (λ unlabelled.
+        without_if (nat_lt chain_limit (chain_through c.objects id entry.object)) errno.RecurseTooDeep c _ k (λ shallow.
+        without_if (nat_le member_limit (length set.members)) errno.NoResources c _ k (λ room.
+        let may : MayJoin c id set entry.object handle = record { there = there; apart = apart; no_memory = no_memory; unlabelled = unlabelled; shallow = shallow; room = room } in
+        by_itself (gives reply.Done (set_changed (with_member (new_member handle entry.object mask cookie)) id c)) c k
+        (member_added held handle mask cookie id set entry refl here may) refl (says_no_list refl))))))
+
+    add_to : (id : ℕ) (entry : TableEntry) → entry_at (table_of c app) handle ≡ Some entry → (o : Option HandleSet) → set_of c.objects id ≡ o
+        → Does (call.SetAdd held handle mask cookie) (set_add_to c id o (new_member handle entry.object mask cookie))
+    add_to id entry here None is = refused_so errno.InvalidArgs c k
+    add_to id entry here (Some set) is = add_member id set entry is here
+
+    add_entries : (set entry : Option TableEntry) → entry_at (table_of c app) handle ≡ entry → Does (call.SetAdd held handle mask cookie) (set_add_entries c handle mask cookie set entry)
+    add_entries None None is = refused_so errno.BadHandle c k
+    add_entries None (Some entry) is = refused_so errno.BadHandle c k
+    add_entries (Some set) None is = refused_so errno.BadHandle c k
+    add_entries (Some set) (Some entry) is = add_to set.object entry is (set_of c.objects set.object) refl
+
+    add_goes : Does (call.SetAdd held handle mask cookie) (set_add c app held handle mask cookie)
+    unfolding set_add
+    add_goes = add_entries (entry_at (table_of c app) held) (entry_at (table_of c app) handle) refl
+
+  -- Waits.
+
   wait_or_report_goes : (c : CoreState) → SmallWalk (Some app) s [] c → (on : WaitOn) (asked : Call) → Awaits app asked c on → (r : Option Reported) → ReportGoes app s r → Does asked (wait_or_report c thread on (timeout_of asked) r)
   wait_or_report_goes c k on asked kind (Some reported) goes = at_once (gives (event_reply reported) reported.core) goes (says_no_list refl)
   wait_or_report_goes c k on asked kind None goes = without_if (is_zero_timeout (timeout_of asked)) errno.TimedOut c _ k (λ some. waits_so c k on asked kind some)
@@ -152,7 +204,7 @@ module _ (app thread : ℕ) (s : CoreState) where
   quietly : {asked : Call} (o : Outcome) → Comes (Some app) (may_list asked) s o → Does asked o
   quietly o comes = at_once o comes.walk comes.says
 
-  pub act_goes : (c : CoreState) → SmallWalk (Some app) s [] c → (asked : Call) → DoesIf asked (act c thread app asked)
+  pub act_goes : (c : CoreState) → SmallWalk (Some app) s [] c → (asked : Call) → DoesIf app thread s asked (act c thread app asked)
   unfolding act
   act_goes c k (call.PortCreate path bufs size flags) = quietly _ (port_goes app s c k path bufs size flags)
   act_goes c k (call.Connect path flags) = connect_goes c k path flags
@@ -164,8 +216,8 @@ module _ (app thread : ℕ) (s : CoreState) where
   act_goes c k (call.SetCookie handle cookie) = quietly _ (cookie_goes app s c k handle cookie)
   act_goes c k (call.Close handle) = quietly _ (close_goes app s c k handle)
   act_goes c k (call.Dup handle) = quietly _ (dup_goes app s c k handle)
-  act_goes c k call.SetCreate = quietly _ (set_goes app s c k)
-  act_goes c k (call.SetAdd set handle mask cookie) = quietly _ (add_goes app s c k set handle mask cookie)
+  act_goes c k call.SetCreate = set_goes c k
+  act_goes c k (call.SetAdd held handle mask cookie) = add_goes c k held handle mask cookie
   act_goes c k (call.SetDel set label) = quietly _ (del_goes app s c k set label)
   act_goes c k (call.SetMod set label mask cookie) = quietly _ (mod_goes app s c k set label mask cookie)
   act_goes c k (call.MemCreate size flags) = quietly _ (memref_goes app s c k size flags)

@@ -1,6 +1,6 @@
 -- The calls of threads that change tables and objects alone, and the ends of waits, are rows of small changes.
 use Rattle.std.proofs.Common.{◌≡◌, ◌≤◌, ℕ, ◌==◌, Bool, true, false, cond, not, List, [], ◌∷◌, length, take, Option, Some, None, refl, sym, subst, drop, min, arith, tests}
-use Rattle.std.specs.Prelude.{if◌then◌else◌, slice_get, nat_lt, nat_le}
+use Rattle.std.specs.Prelude.{if◌then◌else◌, slice_get, nat_lt}
 use Rattle.std.specs.List.{list_all, find}
 use Rattle.std.specs.Option.{is_some}
 use Rattle.kernel_values.specs.declared.errno.Errno.{Errno}
@@ -17,9 +17,9 @@ use Rattle.kernel_values.specs.declared.state.CoreState.{CoreState}
 use Rattle.kernel_types.specs.Objects.{set_changed, memory_of, set_of, end_of, end_changed, published, port_of}
 use Rattle.kernel_types.specs.Tables.{table_of, entry_at, is_full, install, remove_entry, has_room}
 use Rattle.kernel_types.specs.Handles.{set_cookie, set_cookie_entry, close, close_entry, dup, dup_entry}
-use Rattle.kernel_types.specs.Sets.{set_create, set_add, set_add_entries, set_add_to, set_add_member, set_del, set_mod, labelled, labelled_entry, without_label, remasked, is_or_contains, is_label_in, chain_through, member_limit, new_member}
+use Rattle.kernel_types.specs.Sets.{set_del, set_mod, labelled, labelled_entry, without_label, remasked, is_label_in}
 use Rattle.kernel_types.specs.Memories.{mem_create, mem_read, mem_read_entry, mem_read_of, mem_write, mem_write_entry, mem_write_of, is_lawful_size, is_range, is_writable}
-use Rattle.kernel_types.specs.Events.{events_of, is_ready_member, masked_events, is_filled, is_disconnected, chain_limit}
+use Rattle.kernel_types.specs.Events.{events_of, is_ready_member, masked_events, is_filled, is_disconnected}
 use Rattle.kernel_types.specs.Reports.{with_last_reported, Reported, report_of, set_or_plain_report, plain_report, member_report, entry_report, cleared, with_last, last_of, in_turn, has_events}
 use Rattle.kernel_types.specs.Waits.{wait, end_of_wait, end_by_kind, end_by_report, is_due}
 use Rattle.kernel_types.specs.Outcome.{Outcome, refuses, gives, sent_seq, gives_with}
@@ -35,12 +35,12 @@ use Rattle.kernel_values.specs.declared.errno.Errno.TheVariants as errno
 use Rattle.kernel_values.specs.declared.state.WaitOn.TheVariants as wait_on
 use Rattle.kernel_values.specs.declared.reply.Reply.TheVariants as reply
 use Rattle.kernel_types.specs.Outcome.{end_seq}
-use Rattle.step_laws.specs.SmallChanges.{Carries, MayDeliver, MayJoin, Move, SmallChange, after, after_accept, moves}
+use Rattle.step_laws.specs.SmallChanges.{Carries, MayDeliver, Move, SmallChange, after, after_accept, moves}
 use Rattle.step_laws.specs.SmallChanges.Carries.{parts_held}
 use Rattle.step_laws.specs.SmallChanges.Mark.{mark_blocked, mark_unblocked, mark_decided, mark_reported}
 use Rattle.step_laws.specs.SmallChanges.Move.{was_sent, was_opened, was_retired}
 use Rattle.step_laws.specs.SmallChanges.Nameable.{by_entry, by_number, by_pending}
-use Rattle.step_laws.specs.SmallChanges.SmallChange.{cookie_changed, entry_removed, entry_installed, parts_installed, last_changed, set_made, memory_made, port_made, member_added, member_removed, member_remasked, member_put_last, memory_written, message_sent, message_opened, message_retired, end_marked, end_accepted}
+use Rattle.step_laws.specs.SmallChanges.SmallChange.{cookie_changed, entry_removed, entry_installed, parts_installed, last_changed, memory_made, port_made, member_removed, member_remasked, member_put_last, memory_written, message_sent, message_opened, message_retired, end_marked, end_accepted}
 use Rattle.step_laws.specs.Walks.{SmallWalk, moves_of}
 use Rattle.step_laws.proofs.Outcomes.{Comes, lists}
 use Rattle.step_laws.proofs.Outcomes.Said.{says_memory, says_message, says_no_list}
@@ -184,38 +184,6 @@ module _ (app : ℕ) (s : CoreState) where
   dup_goes c k handle = dup_to c k handle (entry_at (table_of c app) handle) refl
 
   -- Sets.
-
-  pub set_goes : (c : CoreState) → Now (Some app) s c → Goes (Some app) s false (set_create c app)
-  unfolding set_create
-  set_goes c k =
-      unless (Some app) s (is_full (table_of c app)) errno.NoResources c _ k (λ room. record { walk = more (Some app) s _ (more (Some app) s c k set_made refl) (entry_installed app refl c.next (by_number (new_given _ c)) room) refl; says = says_no_list refl })
-
-  add_member : (c : CoreState) → Now (Some app) s c → (id : ℕ) (set : HandleSet) (handle : ℕ) (mask : Events) (cookie : ℕ) (entry : TableEntry) → set_of c.objects id ≡ Some set
-      → entry_at (table_of c app) handle ≡ Some entry → Goes (Some app) s false (set_add_member c id set (new_member handle entry.object mask cookie))
-  add_member c k id set handle mask cookie entry there held =
-      unless (Some app) s (is_or_contains c.objects entry.object id) errno.InvalidArgs c _ k (λ apart.
-      unless (Some app) s (is_some (memory_of c.objects entry.object)) errno.NotSupported c _ k (λ no_memory.
-      unless (Some app) s (is_label_in set.members handle) errno.AlreadyExists c _ k (λ unlabelled.
-      unless (Some app) s (nat_lt chain_limit (chain_through c.objects id entry.object)) errno.RecurseTooDeep c _ k (λ shallow.
-      unless (Some app) s (nat_le member_limit (length set.members)) errno.NoResources c _ k (λ room.
-      let may : MayJoin c id set entry.object handle = record { there = there; apart = apart; no_memory = no_memory; unlabelled = unlabelled; shallow = shallow; room = room } in
-      record { walk = more (Some app) s c k (member_added app refl id handle mask cookie set entry held may) refl; says = says_no_list refl })))))
-
-  add_to : (c : CoreState) → Now (Some app) s c → (id : ℕ) (handle : ℕ) (mask : Events) (cookie : ℕ) (entry : TableEntry) → entry_at (table_of c app) handle ≡ Some entry
-      → (o : Option HandleSet) → set_of c.objects id ≡ o → Goes (Some app) s false (set_add_to c id o (new_member handle entry.object mask cookie))
-  add_to c k id handle mask cookie entry held None is = refused (Some app) s errno.InvalidArgs c k
-  add_to c k id handle mask cookie entry held (Some set) is = add_member c k id set handle mask cookie entry is held
-
-  add_entries : (c : CoreState) → Now (Some app) s c → (handle : ℕ) (mask : Events) (cookie : ℕ) (set entry : Option TableEntry) → entry_at (table_of c app) handle ≡ entry
-      → Goes (Some app) s false (set_add_entries c handle mask cookie set entry)
-  add_entries c k handle mask cookie None None is = refused (Some app) s errno.BadHandle c k
-  add_entries c k handle mask cookie None (Some entry) is = refused (Some app) s errno.BadHandle c k
-  add_entries c k handle mask cookie (Some set) None is = refused (Some app) s errno.BadHandle c k
-  add_entries c k handle mask cookie (Some set) (Some entry) is = add_to c k set.object handle mask cookie entry is (set_of c.objects set.object) refl
-
-  pub add_goes : (c : CoreState) → Now (Some app) s c → (set handle : ℕ) (mask : Events) (cookie : ℕ) → Goes (Some app) s false (set_add c app set handle mask cookie)
-  unfolding set_add
-  add_goes c k set handle mask cookie = add_entries c k handle mask cookie (entry_at (table_of c app) set) (entry_at (table_of c app) handle) refl
 
   del_of : (c : CoreState) → Now (Some app) s c → (id label : ℕ) (o : Option HandleSet) → set_of c.objects id ≡ o → Goes (Some app) s false (labelled c id label (without_label label) o)
   del_of c k id label None is = refused (Some app) s errno.InvalidArgs c k

@@ -1,5 +1,5 @@
 -- An invariant: what every change of the core keeps. So every step keeps it, and it holds along every history.
-use Rattle.std.proofs.Common.{◌≡◌, ℕ, ◌++◌, List, [], ◌∷◌, Option, Some, None, subst, refl, ap}
+use Rattle.std.proofs.Common.{◌≡◌, ℕ, ◌++◌, List, [], ◌∷◌, Option, Some, None, subst, sym, refl, ap}
 use Rattle.kernel_values.specs.declared.call.Call.{Call}
 use Rattle.kernel_values.specs.declared.entry.Entry.{Entry}
 use Rattle.kernel_values.specs.declared.entry.Event.{Event}
@@ -15,7 +15,8 @@ use Rattle.kernel_types.specs.Step.{Stepped, step}
 use Rattle.kernel_types.specs.Sweep.{sweep}
 use Rattle.kernel_types.specs.Threads.{running_activity, with_activity}
 use Rattle.step_laws.specs.SmallChanges.{IsGiven, Move, SmallChange, after, moves}
-use Rattle.step_laws.specs.Walks.{CoreChange, IsWalk, MadeBy, ThreadChange, after_core, after_thread, core_moves, moves_of}
+use Rattle.step_laws.specs.Walks.{asked_by, CoreChange, EndsSwept, IsWalk, MadeBy, ThreadChange, after_core, after_thread, core_moves, moves_of}
+use Rattle.step_laws.specs.Walks.EndsSwept.{as_before, swept_last}
 use Rattle.step_laws.specs.Walks.CoreChange.{app_served, by_call, by_small, end_bridged, end_unbridged, objects_swept, time_passed, wait_over}
 use Rattle.step_laws.proofs.Rows.{row_keeps, telling_keeps}
 use Rattle.step_laws.proofs.Steps.{StepWalks, step_walks, steps_walk}
@@ -32,31 +33,47 @@ pub record Invariant : Type 1 where
   pub swept : (c : CoreState) → holds c → holds (sweep c)
 
 module _ (L : Invariant) where
-  change_keeps : (c : CoreState) → L.holds c → (change : CoreChange c) → L.holds (after_core c change)
-  change_keeps c k (by_small by made change) = L.small by c k made change
-  change_keeps c k (by_call app thread asked said change) = L.call app thread asked said c k change
-  change_keeps c k (wait_over thread start found wait there waited) = L.resumed thread c k
-  change_keeps c k (app_served place was there still) = L.served place c k
-  change_keeps c k (end_bridged end given) = L.bridged end c k given
-  change_keeps c k (end_unbridged end) = L.unbridged end c k
-  change_keeps c k (time_passed deadline) = L.passed deadline c k
-  change_keeps c k objects_swept = L.swept c k
+  change_keeps : (asked : Option Call) (c : CoreState) → L.holds c → (change : CoreChange asked c) → L.holds (after_core asked c change)
+  change_keeps asked c k (by_small by made change) = L.small by c k made change
+  change_keeps asked c k (by_call app thread begun said is change) = L.call app thread begun said c k change
+  change_keeps asked c k (wait_over thread start found wait there waited) = L.resumed thread c k
+  change_keeps asked c k (app_served place was there still) = L.served place c k
+  change_keeps asked c k (end_bridged end given) = L.bridged end c k given
+  change_keeps asked c k (end_unbridged end) = L.unbridged end c k
+  change_keeps asked c k (time_passed deadline) = L.passed deadline c k
+  change_keeps asked c k objects_swept = L.swept c k
 
-  pub walk_keeps : {seqs : Seqs} (c d : CoreState) → IsWalk c seqs d → L.holds c → L.holds d
-  walk_keeps c d walked k = row_keeps CoreChange after_core L.holds change_keeps c d walked.walk.row k
+  pub walk_keeps : {asked : Option Call} {seqs : Seqs} (c d : CoreState) → IsWalk asked c seqs d → L.holds c → L.holds d
+  walk_keeps {asked} c d walked k = row_keeps (CoreChange asked) (after_core asked) L.holds (change_keeps asked) c d walked.walk.row k
 
   -- every step keeps it
   pub step_keeps : (s : State) (e : Event) (r : Stepped) → step s e ≡ Some r → L.holds s.core → L.holds r.state.core
   step_keeps s e r is k = walk_keeps s.core r.state.core (steps_walk s e r is) k
 
-  next_keeps : (s : State) (o : Option Stepped) → StepWalks s.core o → L.holds s.core → L.holds (state_or s o).core
-  next_keeps s None walks k = k
-  next_keeps s (Some stepped) walks k = walk_keeps s.core stepped.state.core walks k
+  next_keeps : (asked : Option Call) (s : State) (o : Option Stepped) → StepWalks asked s.core o → L.holds s.core → L.holds (state_or s o).core
+  next_keeps asked s None walks k = k
+  next_keeps asked s (Some stepped) walks k = walk_keeps s.core stepped.state.core walks k
 
   -- it holds after every history, from a state where it holds; where an event is not lawful, the state stays
   pub holds_along : (s : State) (entries : List Entry) → L.holds s.core → L.holds (state_after s entries).core
   holds_along s [] k = k
-  holds_along s (entry ∷ entries) k = holds_along (next_state s entry.event) entries (next_keeps s (step s entry.event) (step_walks s entry.event) k)
+  holds_along s (entry ∷ entries) k = holds_along (next_state s entry.event) entries (next_keeps (asked_by entry.event) s (step s entry.event) (step_walks s entry.event) k)
+
+-- What the sweep alone brings about holds after every step, since each ends with one or leaves the core, and so along every history.
+
+module _ (P : CoreState → Type 0) (after_sweep : (c : CoreState) → P (sweep c)) where
+  ends_hold : (c d : CoreState) → EndsSwept c d → P c → P d
+  ends_hold c d (as_before is) k = subst P (sym is) k
+  ends_hold c d (swept_last b is) k = subst P (sym is) (after_sweep b)
+
+  next_holds : (asked : Option Call) (s : State) (o : Option Stepped) → StepWalks asked s.core o → P s.core → P (state_or s o).core
+  next_holds asked s None walks k = k
+  next_holds asked s (Some stepped) walks k = ends_hold s.core stepped.state.core walks.ends k
+
+  pub swept_along : (s : State) (entries : List Entry) → P s.core → P (state_after s entries).core
+  swept_along s [] k = k
+  swept_along s (entry ∷ entries) k =
+      swept_along (next_state s entry.event) entries (next_holds (asked_by entry.event) s (step s entry.event) (step_walks s entry.event) k)
 
 -- An invariant in the light of the messages that moved.
 
@@ -82,22 +99,22 @@ module _ (X : Type 0) (L : TracedInvariant X) where
   retold_both x [] told = refl
   retold_both x (u ∷ us) told = ap (λ (y : X). L.moved y u) (retold_both x us told)
 
-  change_told : (x : X) (told : List Move) (c : CoreState) → L.holds (retold L.moved x told) c → (change : CoreChange c)
-      → L.holds (retold L.moved x (core_moves c change ++ told)) (after_core c change)
-  change_told x told c k (by_small by made change) =
+  change_told : (asked : Option Call) (x : X) (told : List Move) (c : CoreState) → L.holds (retold L.moved x told) c → (change : CoreChange asked c)
+      → L.holds (retold L.moved x (core_moves asked c change ++ told)) (after_core asked c change)
+  change_told asked x told c k (by_small by made change) =
       subst (λ (y : X). L.holds y (after by c change)) (retold_both x (moves by c change) told) (L.small by (retold L.moved x told) c k change)
-  change_told x told c k (by_call app thread asked said change) = L.call app thread asked said (retold L.moved x told) c k change
-  change_told x told c k (wait_over thread start found wait there waited) = L.resumed thread (retold L.moved x told) c k
-  change_told x told c k (app_served place was there still) = L.served place (retold L.moved x told) c k
-  change_told x told c k (end_bridged end given) = L.bridged end (retold L.moved x told) c k given
-  change_told x told c k (end_unbridged end) = L.unbridged end (retold L.moved x told) c k
-  change_told x told c k (time_passed deadline) = L.passed deadline (retold L.moved x told) c k
-  change_told x told c k objects_swept = L.swept (retold L.moved x told) c k
+  change_told asked x told c k (by_call app thread begun said is change) = L.call app thread begun said (retold L.moved x told) c k change
+  change_told asked x told c k (wait_over thread start found wait there waited) = L.resumed thread (retold L.moved x told) c k
+  change_told asked x told c k (app_served place was there still) = L.served place (retold L.moved x told) c k
+  change_told asked x told c k (end_bridged end given) = L.bridged end (retold L.moved x told) c k given
+  change_told asked x told c k (end_unbridged end) = L.unbridged end (retold L.moved x told) c k
+  change_told asked x told c k (time_passed deadline) = L.passed deadline (retold L.moved x told) c k
+  change_told asked x told c k objects_swept = L.swept (retold L.moved x told) c k
 
-  pub walk_told : {seqs : Seqs} (x : X) (c d : CoreState) → IsWalk c seqs d → L.holds x c → L.holds (retold L.moved x (moves_of seqs)) d
-  walk_told x c d walked k =
+  pub walk_told : {asked : Option Call} {seqs : Seqs} (x : X) (c d : CoreState) → IsWalk asked c seqs d → L.holds x c → L.holds (retold L.moved x (moves_of seqs)) d
+  walk_told {asked} x c d walked k =
       subst (λ (us : List Move). L.holds (retold L.moved x us) d) walked.walk.tells
-      (telling_keeps CoreChange after_core core_moves (λ us b. L.holds (retold L.moved x us) b) (change_told x) c d walked.walk.row k)
+      (telling_keeps (CoreChange asked) (after_core asked) (core_moves asked) (λ us b. L.holds (retold L.moved x us) b) (change_told asked x) c d walked.walk.row k)
 
   -- a step's entry says which messages moved
   pub step_told : (x : X) (s : State) (e : Event) (r : Stepped) → step s e ≡ Some r → L.holds x s.core → L.holds (retold L.moved x (moves_of r.seqs)) r.state.core

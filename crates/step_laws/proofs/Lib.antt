@@ -1,6 +1,7 @@
 pub mod Bridged
 pub mod There
 pub mod Rows
+pub mod Leaving
 pub mod Outcomes
 pub mod Calls
 pub mod Acting

@@ -14,10 +14,10 @@ use Rattle.kernel_types.specs.Objects.{added, changed, end_changed, end_of, new_
 use Rattle.kernel_types.specs.Ports.{new_port, publish, server_end}
 use Rattle.kernel_types.specs.Reach.{is_in}
 use Rattle.kernel_types.specs.Reports.{with_last}
-use Rattle.kernel_types.specs.Sets.{new_member, remasked, with_member, without_label}
+use Rattle.kernel_types.specs.Sets.{remasked, without_label}
 use Rattle.kernel_types.specs.Sweep.{cut_end, kept, pruned, pruned_port, reached, sweep}
 use Rattle.step_laws.specs.SmallChanges.{SmallChange, after, marked_by}
-use Rattle.step_laws.specs.SmallChanges.SmallChange.{cookie_changed, entry_removed, entry_installed, parts_installed, last_changed, set_made, memory_made, client_made, pair_made, port_made, member_added, member_removed, member_remasked, member_put_last, memory_written, message_sent, message_opened, message_retired, end_marked, end_accepted}
+use Rattle.step_laws.specs.SmallChanges.SmallChange.{cookie_changed, entry_removed, entry_installed, parts_installed, last_changed, memory_made, client_made, pair_made, port_made, member_removed, member_remasked, member_put_last, memory_written, message_sent, message_opened, message_retired, end_marked, end_accepted}
 use Rattle.step_laws.specs.Walks.{Row}
 use Rattle.step_laws.specs.Walks.Row.{goes_on, stays}
 use Rattle.step_laws.proofs.Rows.{row_keeps}
@@ -62,7 +62,6 @@ shapes by c (entry_removed app of_app handle entry held) = only c (of_apps _)
 shapes by c (entry_installed app of_app object nameable room) = only c (of_apps _)
 shapes by c (parts_installed app of_app id number count end message there is_open room) = only c (of_apps _)
 shapes by c (last_changed app of_app entry first) = only c (of_apps _)
-shapes by c set_made = only c (of_more _)
 shapes by c (memory_made size flags lawful) = only c (of_more _)
 shapes by c (client_made client path way) = only c (of_more _)
 shapes by c (pair_made client path id port way lets) =
@@ -70,7 +69,6 @@ shapes by c (pair_made client path id port way lets) =
     let other : Body = server_end c.next port.bufs port.size in
     goes_on _ (added other (added one c)) (goes_on _ (added one c) (only c (of_more one)) (of_more other) refl) (of_one (on_port (λ p. record p { pending = p.pending ++ (c.next + 1) ∷ [] })) id) refl
 shapes by c (port_made path bufs size flags lawful free) = only c (of_port (new_port path bufs size flags))
-shapes by c (member_added app of_app id handle mask cookie set entry held may) = only c (of_one (on_set (with_member (new_member handle entry.object mask cookie))) id)
 shapes by c (member_removed id label set there known) = only c (of_one (on_set (without_label label)) id)
 shapes by c (member_remasked id label mask cookie set there known) = only c (of_one (on_set (remasked label mask cookie)) id)
 shapes by c (member_put_last id member set there ready) = only c (of_one (on_set (with_last member)) id)

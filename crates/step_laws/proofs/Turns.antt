@@ -1,5 +1,5 @@
 -- A step of a thread, with the thread that takes it: for laws that ask who acts, and with which call.
-use Rattle.std.proofs.Common.{◌≡◌, ℕ, ◌==◌, Bool, true, false, cond, Option, Some, None, refl, subst, arith, tests}
+use Rattle.std.proofs.Common.{◌≡◌, ℕ, ◌==◌, Bool, true, false, cond, Option, Some, None, refl, ap, subst, arith, tests}
 use Rattle.std.specs.Prelude.{slice_get}
 use Rattle.std.specs.Option.{option_map}
 use Rattle.kernel_values.specs.declared.call.Call.{Call}
@@ -8,13 +8,14 @@ use Rattle.kernel_values.specs.declared.state.Activity.TheVariants as activity
 use Rattle.kernel_values.specs.declared.state.CoreState.{CoreState}
 use Rattle.kernel_values.specs.declared.state.Thread.{Thread}
 use Rattle.kernel_values.specs.declared.state.Wait.{Wait}
+use Rattle.kernel_types.specs.Applications.{is_over}
 use Rattle.kernel_types.specs.CoreStep.{act, begin_as, begin_of, core_begin, core_resume, resume_as, resume_of, resumed, swept}
 use Rattle.kernel_types.specs.Outcome.{Outcome}
 use Rattle.kernel_types.specs.Waits.{end_of_wait}
 use Rattle.step_laws.proofs.Acting.{DoesIf, act_goes}
 use Rattle.step_laws.proofs.Calls.{GoesIf, end_of_wait_goes}
 use Rattle.step_laws.proofs.Outcomes.{Acts, Comes}
-use Rattle.step_laws.proofs.Steps.{none_yet}
+use Rattle.step_laws.proofs.Steps.{acting, none_yet}
 
 -- a thread that runs makes the call, and the sweep ends the step
 pub record Begun (c : CoreState) (thread start : ℕ) (asked : Call) (outcome : Outcome) : Type 0 where
@@ -49,7 +50,7 @@ begun_as c thread start asked outcome found there (activity.Running running) sta
     let go : (b : Bool) → P b = λ b. elim b as (λ v. P v) [
       | true ↦ (λ same got. let now : running ≡ start = grind (arith, tests) in
           begun_inner c thread start asked outcome found there (subst (λ (n : ℕ). found.activity ≡ activity.Running n) now state) (act c thread found.app asked)
-          (act_goes found.app thread c c (none_yet (Some found.app) c) asked) got)
+          (act_goes found.app thread c (acting c thread found there (ap is_over state)) c (none_yet (Some found.app) c) asked) got)
       | false ↦ (λ same got. absurd (cc))
     ] in
     go (running == start) refl is

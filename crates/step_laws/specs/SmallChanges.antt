@@ -1,5 +1,5 @@
 -- The small changes of tables and objects of which every step is made, each with what was tested before it.
-use Rattle.std.specs.Prelude.{◌≡◌, ◌<◌, ◌≤◌, ℕ, Bool, true, false, List, [], ◌∷◌, length, min, take, Option, Some, slice_get, nat_le, nat_lt}
+use Rattle.std.specs.Prelude.{◌≡◌, ◌<◌, ◌≤◌, ℕ, Bool, true, false, List, [], ◌∷◌, length, min, take, Option, Some, slice_get}
 use Rattle.std.specs.List.{list_all, find}
 use Rattle.std.specs.Option.{is_some}
 use Rattle.kernel_values.specs.declared.entry.EndSeq.{EndSeq}
@@ -19,14 +19,14 @@ use Rattle.kernel_values.specs.declared.state.TableEntry.{TableEntry}
 use Rattle.kernel_types.specs.Bridge.{with_error}
 use Rattle.kernel_types.specs.Connects.{Way, accept_client, accepted_end, peer_of, pending_pair, unready, waiting_client, way_of}
 use Rattle.kernel_types.specs.Connects.Way.{to_port, to_start, to_nothing}
-use Rattle.kernel_types.specs.Events.{chain_limit, events_of, is_disconnected, is_filled, is_ready_member}
+use Rattle.kernel_types.specs.Events.{events_of, is_disconnected, is_filled, is_ready_member}
 use Rattle.kernel_types.specs.Memories.{is_lawful_size, is_range, is_writable, new_memory, written}
 use Rattle.kernel_types.specs.Messages.{all_installed, blocked_end, free_id, has_unsendable_part, is_full_end, is_in_table, is_opened_as, is_unconnected, part_objects, peer_end, unblocked_end, with_message, with_opened, without_opened}
 use Rattle.kernel_types.specs.Objects.{added, end_changed, end_of, is_there, memory_changed, memory_of, port_changed, port_of, published, set_changed, set_of}
 use Rattle.kernel_types.specs.Outcome.{end_seq}
 use Rattle.kernel_types.specs.Ports.{admits, is_lawful_port, new_port, publish}
 use Rattle.kernel_types.specs.Reports.{has_events, in_turn, last_of, reported_end, with_last, with_last_reported}
-use Rattle.kernel_types.specs.Sets.{chain_through, is_label_in, is_or_contains, member_limit, new_member, remasked, with_member, without_label}
+use Rattle.kernel_types.specs.Sets.{is_label_in, remasked, without_label}
 use Rattle.kernel_types.specs.Tables.{entry_at, has_room, installed, is_full, table_of, with_cookie, with_table, without}
 
 -- What was tested.
@@ -59,15 +59,6 @@ pub data Carries (by : Option ℕ) (b : CoreState) (source : ChannelEnd) (parts 
       → is_disconnected source.state ≡ false → length handles ≤ 8 → list_all (is_in_table (table_of b app)) handles ≡ true
       → has_unsendable_part b (table_of b app) (peer_end b.objects source.peer) handles ≡ false → Carries by b source parts
 
--- an object may become a member of a set under a label
-pub record MayJoin (b : CoreState) (id : ℕ) (set : HandleSet) (object label : ℕ) : Type 0 where
-  pub there : set_of b.objects id ≡ Some set
-  pub apart : is_or_contains b.objects object id ≡ false
-  pub no_memory : is_some (memory_of b.objects object) ≡ false
-  pub unlabelled : is_label_in set.members label ≡ false
-  pub shallow : nat_lt chain_limit (chain_through b.objects id object) ≡ false
-  pub room : nat_le member_limit (length set.members) ≡ false
-
 -- marks of an end, which leave its messages, its state, its peer and its slots
 pub data Mark : Type 0 where
   mark_blocked : Mark
@@ -99,14 +90,11 @@ pub data SmallChange (by : Option ℕ) (b : CoreState) : Type 0 where
       → has_room (min count (length message.parts)) (table_of b app) ≡ true → SmallChange by b
   last_changed : (app : ℕ) → by ≡ Some app → (entry : TableEntry) → find (has_events b.objects) (in_turn (last_of (slice_get b.apps app)) (table_of b app)) ≡ Some entry → SmallChange by b
   -- new objects
-  set_made : SmallChange by b
   memory_made : (size : ℕ) (flags : MemFlags) → is_lawful_size size ≡ true → SmallChange by b
   client_made : (client : Connector) (path : List ℕ) → is_to_port (way_of b path) ≡ false → SmallChange by b
   pair_made : (client : Connector) (path : List ℕ) (id : ℕ) (port : Port) → way_of b path ≡ to_port id port → admits port.flags client ≡ true → SmallChange by b
   port_made : (path : List ℕ) (bufs size : ℕ) (flags : PortFlags) → is_lawful_port path bufs size ≡ true → is_some (published b.objects path) ≡ false → SmallChange by b
-  -- the members of sets
-  member_added : (app : ℕ) → by ≡ Some app → (id handle : ℕ) (mask : Events) (cookie : ℕ) (set : HandleSet) (entry : TableEntry) → entry_at (table_of b app) handle ≡ Some entry
-      → MayJoin b id set entry.object handle → SmallChange by b
+  -- the members of sets, of which one is added by a call alone (`ThreadChange`)
   member_removed : (id label : ℕ) (set : HandleSet) → set_of b.objects id ≡ Some set → is_label_in set.members label ≡ true → SmallChange by b
   member_remasked : (id label : ℕ) (mask : Events) (cookie : ℕ) (set : HandleSet) → set_of b.objects id ≡ Some set → is_label_in set.members label ≡ true → SmallChange by b
   member_put_last : (id : ℕ) (member : Member) (set : HandleSet) → set_of b.objects id ≡ Some set → find (is_ready_member (events_of b.objects)) set.members ≡ Some member → SmallChange by b
@@ -133,12 +121,10 @@ after by b (entry_removed app of_app handle entry held) = with_table (λ table. 
 after by b (entry_installed app of_app object nameable room) = with_table (λ table. installed table object) app b
 after by b (parts_installed app of_app id number count end message there is_open room) = with_table (λ table. all_installed table (take count message.parts)) app b
 after by b (last_changed app of_app entry first) = with_last_reported app entry.handle b
-after by b set_made = added (body.Set (record { members = [] })) b
 after by b (memory_made size flags lawful) = added (body.Memory (new_memory size flags)) b
 after by b (client_made client path way) = waiting_client client path b
 after by b (pair_made client path id port way lets) = pending_pair client id port b
 after by b (port_made path bufs size flags lawful free) = publish (new_port path bufs size flags) b
-after by b (member_added app of_app id handle mask cookie set entry held may) = set_changed (with_member (new_member handle entry.object mask cookie)) id b
 after by b (member_removed id label set there known) = set_changed (without_label label) id b
 after by b (member_remasked id label mask cookie set there known) = set_changed (remasked label mask cookie) id b
 after by b (member_put_last id member set there ready) = set_changed (with_last member) id b
