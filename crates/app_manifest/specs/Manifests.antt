@@ -1,6 +1,6 @@
 -- What a JSON value says of an application: its UUID, how it starts again, and its start ports.
 -- A member that no rule names is of no matter; what is missing is false, or empty.
-use Rattle.std.specs.Prelude.{◌≡◌, ℕ, ◌+◌, ◌==◌, Bool, false, not, ◌||◌, List, [], ◌∷◌, length, take, Option, Some, None, Result, Ok, Err, bytes_eq, codes, is_some, option_map, option_and_then, nat_le, if◌then◌else◌}
+use Rattle.std.specs.Prelude.{◌≡◌, ℕ, ◌+◌, Bool, false, List, [], ◌∷◌, Option, Some, None, Result, Ok, Err, codes, is_some, option_map, option_and_then, nat_le, if◌then◌else◌}
 use Rattle.std.specs.Int.{w128, from_be_bytes}
 use Rattle.std.specs.Option.{ok_or}
 use Rattle.serde_json.specs.Data.{Data, Items, no_items, item}
@@ -36,17 +36,9 @@ abbrev pub truths_or_missing : List ℕ → List ℕ → Option Data → Option 
 truths_or_missing first second None = Some (false, false)
 truths_or_missing first second (Some value) = if is_some (as_object value) then two_truths first second value else None
 
--- only a URN has 45 bytes, and its prefix is in lower case
-abbrev pub has_lawful_prefix : List ℕ → Bool
-has_lawful_prefix text = not (length text == 45) || bytes_eq (take 9 text) (codes "urn:uuid:")
-
--- one of the texts of a UUID (RFC 9562)
-unfoldable pub uuid_text : List ℕ → Option (List ℕ)
-uuid_text text = if has_lawful_prefix text then parsed text else None
-
--- `uuid`: such a text, as a number with the high byte first
+-- `uuid`: one of the texts of a UUID (RFC 9562), as a number with the high byte first
 unfoldable pub uuid_in : Data → Option ℕ
-uuid_in value = option_map (from_be_bytes w128) (option_and_then uuid_text (option_and_then as_str (get (codes "uuid") value)))
+uuid_in value = option_map (from_be_bytes w128) (option_and_then parsed (option_and_then as_str (get (codes "uuid") value)))
 
 -- `mgmt_flags`: whether it starts again, and whether its first start waits
 unfoldable pub mgmt_flags_in : Data → Option (Bool × Bool)

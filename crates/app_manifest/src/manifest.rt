@@ -2,7 +2,8 @@
 
 ghost use Rattle.std.specs.Prelude.{◌≡◌};
 ghost use Rattle.serde_json.specs.View.{view};
-ghost use Rattle.app_manifest.specs.Manifests.{Reads, has_lawful_prefix, uuid_text, uuid_in, mgmt_flags_in, manifest_in};
+ghost use Rattle.uuid.specs.Text.{parsed};
+ghost use Rattle.app_manifest.specs.Manifests.{Reads, uuid_in, mgmt_flags_in, manifest_in};
 
 use crate::faults::ManifestFault;
 use crate::flags::truths_or_missing;
@@ -12,20 +13,10 @@ use serde_json::Value;
 use std::alloc::Global;
 use uuid::Uuid;
 
-// Only a URN has 45 bytes.
-fn has_lawful_prefix(text: &[u8]) -> bool
-    ensures { result ≡ has_lawful_prefix text.now }
+// In any of the spellings that the crate uuid reads.
+fn parsed(text: &str) -> Option<Uuid>
+    ensures { result ≡ parsed text.now }
 {
-    text.len() != 45 || &text[..9] == b"urn:uuid:".as_slice()
-}
-
-#[tactic(auto, unfolding(crate::specs::Manifests::uuid_text))]
-fn uuid_text(text: &str) -> Option<Uuid>
-    ensures { result ≡ uuid_text text.now }
-{
-    if !has_lawful_prefix(text.as_bytes()) {
-        return None;
-    }
     match Uuid::parse_str(text) {
         Ok(uuid) => Some(uuid),
         Err(_) => None,
@@ -37,7 +28,7 @@ fn uuid_of(manifest: &Value) -> Option<u128>
     ensures { result ≡ uuid_in (view manifest.now) }
 {
     let text = manifest.get("uuid")?.as_str()?;
-    let uuid = uuid_text(text)?;
+    let uuid = parsed(text)?;
     Some(uuid.as_u128())
 }
 

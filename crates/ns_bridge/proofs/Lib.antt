@@ -1,6 +1,5 @@
 pub mod Awaiting
 pub mod Blank
-pub mod Calm
 pub mod ClientSteps
 pub mod ClientTiming
 pub mod Counting

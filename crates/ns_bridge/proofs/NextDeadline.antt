@@ -26,7 +26,7 @@ use Rattle.kernel_types.specs.Threads.{activity_changed}
 use Rattle.kernel_types.specs.Waits.{activity_may_move, end_by_kind, end_by_report, end_of_wait, is_due, thread_may_move}
 use Rattle.ns_bridge.specs.Parts.{Normal, idled}
 use Rattle.ns_bridge.specs.Timely.{AreClientsInTime, AreInTime, IsClientInTime, IsInTime, IsNear, IsNearOn, IsOnTime}
-use Rattle.ns_bridge.proofs.Calm.{Calm, calm_sweep}
+use Rattle.step_laws.proofs.Leaving.{Calm, calm_of, sweep_leaves}
 use Rattle.ns_bridge.proofs.Timing.{all_changed}
 use Rattle.ns_bridge.proofs.ClientTiming.{cancelled_clients, later_clients, later_near}
 
@@ -161,4 +161,4 @@ pub idle_on_time : (deadline : Option ℕ) (s t : State) (n : Normal) (made rema
 idle_on_time deadline s t n made remade idled_is later time =
     let there : CoreState = core_idle deadline s.core in
     subst (λ (x : State). IsOnTime x.core (idled deadline n).clients) (sym idled_is.state_is)
-    (swept_on_time there (sweep there) (calm_sweep there) (idled deadline n).clients (idled_in_time deadline s.core later time.threads) (idled_clients deadline s.core n later time.clients))
+    (swept_on_time there (sweep there) (calm_of there (sweep there) (sweep_leaves there)) (idled deadline n).clients (idled_in_time deadline s.core later time.threads) (idled_clients deadline s.core n later time.clients))

@@ -30,7 +30,9 @@ use Rattle.kernel_types.specs.Outcome.{Outcome, gives_with, refuses, sent_seq}
 use Rattle.kernel_types.specs.Ports.{admits}
 use Rattle.kernel_types.specs.Step.{Stepped, beside_core, client_begin, client_number, client_resume, device_stepped, full_step, idle, idle_lawful, in_world, is_built_event, is_thread, next_deadline, step}
 use Rattle.kernel_types.specs.Sweep.{sweep}
-use Rattle.ns_device.proofs.Leaving.{IfLeft, begin_leaves, idled_leaves, resume_leaves, started_leaves, sweep_leaves}
+use Rattle.step_laws.proofs.BridgeLeaving.{marked_leaves, push_leaves, take_leaves}
+use Rattle.step_laws.proofs.Leaving.{sweep_leaves}
+use Rattle.step_laws.proofs.TurnLeaving.{LeftIf, begin_leaves, idle_leaves, resume_leaves, started_left}
 
 abbrev IfNames : List ℕ → Option Stepped → Type 0
 IfNames ends None = Unit {0}
@@ -38,9 +40,9 @@ IfNames ends (Some stepped) = stepped.state.core.bridged ≡ ends
 
 -- A step of a core that has no clients beside it.
 
-thread_names : (ends : List ℕ) (world : World) (o : Option Outcome) → IfLeft ends o → IfNames ends (option_map (in_world world) o)
-thread_names ends world None names = tt
-thread_names ends world (Some outcome) names = names
+thread_names : (c : CoreState) (world : World) (o : Option Outcome) → LeftIf c o → IfNames c.bridged (option_map (in_world world) o)
+thread_names c world None left = tt
+thread_names c world (Some outcome) left = left.bridged
 
 client_names : (c : CoreState) (o : Option Acted) → IfNames c.bridged (option_map (beside_core c) o)
 client_names c None = tt
@@ -59,20 +61,20 @@ full_step_names s none (event.Begin actor start asked) =
     let one : Option Outcome = core_begin s.core actor.0 start asked in
     let other : Option Acted = client_begin s (client_number s actor.0) start asked in
     elim (is_thread s actor.0) as (λ b. IfNames s.core.bridged (cond b (option_map (in_world s.world) one) (option_map (beside_core s.core) other))) [
-      | true ↦ thread_names s.core.bridged s.world one (begin_leaves s.core actor.0 start asked)
+      | true ↦ thread_names s.core s.world one (begin_leaves s.core actor.0 start asked)
       | false ↦ client_names s.core other
     ]
 full_step_names s none (event.Resume actor start) =
     let one : Option Outcome = core_resume s.core actor.0 start in
     let other : Option Acted = client_resume s (client_number s actor.0) start in
     elim (is_thread s actor.0) as (λ b. IfNames s.core.bridged (cond b (option_map (in_world s.world) one) (option_map (beside_core s.core) other))) [
-      | true ↦ thread_names s.core.bridged s.world one (resume_leaves s.core actor.0 start)
+      | true ↦ thread_names s.core s.world one (resume_leaves s.core actor.0 start)
       | false ↦ client_names s.core other
     ]
 full_step_names s none event.Device = device_names s none
 full_step_names s none event.Idle =
     elim (idle_lawful s) as (λ b. IfNames s.core.bridged (cond b (Some (idle s)) None)) [
-      | true ↦ sweep_leaves (core_idle (next_deadline s) s.core) ∙ idled_leaves s.core (next_deadline s)
+      | true ↦ (sweep_leaves (core_idle (next_deadline s) s.core)).bridged ∙ idle_leaves s.core (next_deadline s)
       | false ↦ tt
     ]
 
@@ -97,18 +99,18 @@ IfMade c (Err errno) = Unit {0}
 
 unless_running_names : (place : ℕ) (o : Option Application) (c : CoreState) → (started_unless_running place o c).bridged ≡ c.bridged
 unless_running_names place None c = refl
-unless_running_names place (Some app) c = elim app.running as (λ b. (cond b c (started place c)).bridged ≡ c.bridged) [ true ↦ refl | false ↦ started_leaves place c ]
+unless_running_names place (Some app) c = elim app.running as (λ b. (cond b c (started place c)).bridged ≡ c.bridged) [ true ↦ refl | false ↦ (started_left place c).bridged ]
 
 connected_by : (c : CoreState) (path : List ℕ) (way : Way) → IfMade c (ns_connect_by way c path)
 connected_by c path (to_port id port) =
     let made : CoreState = bridging c.next (pending_pair connector.NormalWorld id port c) in
-    elim (not (admits port.flags connector.NormalWorld)) as (λ b. IfMade c (cond b (Err errno.AccessDenied) (Ok (sweep made)))) [ true ↦ tt | false ↦ sweep_leaves made ]
+    elim (not (admits port.flags connector.NormalWorld)) as (λ b. IfMade c (cond b (Err errno.AccessDenied) (Ok (sweep made)))) [ true ↦ tt | false ↦ (sweep_leaves made).bridged ]
 connected_by c path (to_start place start) =
     let made : CoreState = bridging c.next (waiting_client connector.NormalWorld path c) in
     let there : CoreState = started_unless_running place (slice_get c.apps place) made in
     elim (not (admits start connector.NormalWorld)) as (λ b. IfMade c (cond b (Err errno.AccessDenied) (Ok (sweep there)))) [
       | true ↦ tt
-      | false ↦ sweep_leaves there ∙ unless_running_names place (slice_get c.apps place) made
+      | false ↦ (sweep_leaves there).bridged ∙ unless_running_names place (slice_get c.apps place) made
     ]
 connected_by c path to_nothing = tt
 
@@ -120,64 +122,20 @@ connected_if c path = connected_by c path (way_of c path)
 pub connect_names : (c : CoreState) (path : List ℕ) (made : CoreState) → ns_connect c path ≡ Ok made → made.bridged ≡ c.bridged ++ c.next ∷ []
 connect_names c path made is = subst (IfMade c) is (connected_if c path)
 
-deliver_names : (c : CoreState) (id : ℕ) (peer : Option ℕ) (o : Option ChannelEnd) (bytes : List ℕ) → (deliver c id peer o bytes []).core.bridged ≡ c.bridged
-deliver_names c id None None bytes = refl
-deliver_names c id None (Some end) bytes = refl
-deliver_names c id (Some peer) None bytes = refl
-deliver_names c id (Some peer) (Some end) bytes =
-    elim (is_full_end end) as (λ b. (cond b (refuses errno.NotEnoughBuffer (end_changed blocked_end id c))
-    (gives_with (reply.Count (length bytes)) (sent_seq peer end.sent) (end_changed (with_message bytes []) peer c))).core.bridged ≡ c.bridged) [ true ↦ refl | false ↦ refl ]
-
-push_from_names : (c : CoreState) (end : ℕ) (bytes : List ℕ) (o : Option ChannelEnd) → (push_from c end bytes o).core.bridged ≡ c.bridged
-push_from_names c end bytes None = refl
-push_from_names c end bytes (Some from) =
-    let done : Outcome = deliver c end from.peer (peer_end c.objects from.peer) bytes [] in
-    sweep_leaves done.core ∙ deliver_names c end from.peer (peer_end c.objects from.peer) bytes
-
 -- a message that goes changes none
 pub push_names : (c : CoreState) (end : ℕ) (bytes : List ℕ) → (ns_push c end bytes).core.bridged ≡ c.bridged
-unfolding ns_push
-push_names c end bytes = push_from_names c end bytes (end_of c.objects end)
-
-get_message_names : (c : CoreState) (id : ℕ) (end : ChannelEnd) (o : Option Message) → (get_message c id end o).core.bridged ≡ c.bridged
-get_message_names c id end None =
-    elim (is_disconnected end.state) as (λ b. (cond b (refuses errno.ChannelClosed c) (refuses errno.NoMsg c)).core.bridged ≡ c.bridged) [ true ↦ refl | false ↦ refl ]
-get_message_names c id end (Some message) = refl
-
-unblocked_names : (c : CoreState) (peer : Option ℕ) → (peer_unblocked peer c).bridged ≡ c.bridged
-unblocked_names c None = refl
-unblocked_names c (Some peer) = refl
-
-put_message_names : (c : CoreState) (id : ℕ) (end : ChannelEnd) (number : ℕ) (o : Option Message) → (put_message c id end number o).core.bridged ≡ c.bridged
-put_message_names c id end number None = refl
-put_message_names c id end number (Some message) = unblocked_names (end_changed (without_opened number) id c) end.peer
-
-put_names : (c : CoreState) (id number : ℕ) (o : Option ChannelEnd) → (put_from c id number o).core.bridged ≡ c.bridged
-put_names c id number None = refl
-put_names c id number (Some end) = put_message_names c id end number (find (is_opened_as number) end.messages)
-
-take_from_names : (c : CoreState) (id : ℕ) (o : Option ChannelEnd) → (take_from c id o).core.bridged ≡ c.bridged
-take_from_names c id None = refl
-take_from_names c id (Some end) =
-    let number : ℕ = free_id end.messages in
-    let there : CoreState = (get_message c id end (find is_filled end.messages)).core in
-    let last : Option ChannelEnd = end_of there.objects id in
-    sweep_leaves (put_from there id number last).core ∙ (put_names there id number last ∙ get_message_names c id end (find is_filled end.messages))
+push_names c end bytes = (push_leaves c end bytes).bridged
 
 -- nor does one that came
 pub take_names : (c : CoreState) (end : ℕ) → (ns_take c end).core.bridged ≡ c.bridged
-unfolding ns_take
-take_names c end = take_from_names c end (end_of c.objects end)
-
-marked_names : (broken : Bool) (end : ℕ) (c : CoreState) → (marked_if broken end c).bridged ≡ c.bridged
-marked_names true end c = elim (peer_of (end_of c.objects end)) as (λ o. (peer_marked o c).bridged ≡ c.bridged) [ None ↦ refl | Some peer ↦ refl ]
-marked_names false end c = refl
+take_names c end = (take_leaves c end).bridged
 
 -- a drop takes one end away
 pub drop_names : (broken : Bool) (end : ℕ) (c : CoreState) → (ns_drop broken end c).bridged ≡ filter (λ other. not (other == end)) c.bridged
 unfolding ns_drop
-drop_names broken end c = sweep_leaves (unbridged end (marked_if broken end c)) ∙ ap (filter (λ other. not (other == end))) (marked_names broken end c)
+drop_names broken end c =
+    (sweep_leaves (unbridged end (marked_if broken end c))).bridged ∙ ap (filter (λ other. not (other == end))) (marked_leaves c broken end).bridged
 
 -- time changes none
 pub idle_names : (c : CoreState) (deadline : Option ℕ) → (sweep (core_idle deadline c)).bridged ≡ c.bridged
-idle_names c deadline = sweep_leaves (core_idle deadline c) ∙ idled_leaves c deadline
+idle_names c deadline = (sweep_leaves (core_idle deadline c)).bridged ∙ idle_leaves c deadline

@@ -2,7 +2,6 @@ pub mod Anywhere
 pub mod Bridging
 pub mod First
 pub mod Fronts
-pub mod Leaving
 pub mod Names
 pub mod Numbers
 pub mod Passing

@@ -23,94 +23,13 @@ use Rattle.kernel_types.specs.Outcome.{Outcome}
 use Rattle.kernel_types.specs.Ports.{admits}
 use Rattle.kernel_types.specs.Sweep.{kept, pruned, sweep}
 use Rattle.step_laws.proofs.Bridged.{DeviceKeeps, DeviceKeepsIf, OfDevice, device_keeps}
-use Rattle.runners.proofs.Quiet.{Quiet}
+use Rattle.step_laws.proofs.BridgeLeaving.{drop_calm, drops_calm, push_leaves, take_leaves}
+use Rattle.step_laws.proofs.Leaving.{Calm, calm_of}
 use Rattle.run_laws.proofs.Places.{AllStand, quiet_stands, started_stands}
 
-same : (c : CoreState) → Quiet c c
-same c = record { threads = refl; starts = refl }
-
-quiet_both : (c d e : CoreState) → Quiet c d → Quiet d e → Quiet c e
-quiet_both c d e p q = record { threads = q.threads ∙ p.threads; starts = q.starts ∙ p.starts }
-
-quiet_if : (c : CoreState) (b : Bool) (x y : Outcome) → Quiet c x.core → Quiet c y.core → Quiet c (cond b x y).core
-quiet_if c true x y p q = p
-quiet_if c false x y p q = q
-
-quiet_sweep : (c d : CoreState) → Quiet c d → Quiet c (sweep d)
-unfolding sweep kept pruned
-quiet_sweep c d q = record { threads = q.threads; starts = q.starts }
-
--- a message is sent
-
-quiet_deliver : (c : CoreState) (id : ℕ) (peer : Option ℕ) (end : Option ChannelEnd) (bytes parts : List ℕ) → Quiet c (deliver c id peer end bytes parts).core
-quiet_deliver c id None None bytes parts = same c
-quiet_deliver c id None (Some end) bytes parts = same c
-quiet_deliver c id (Some peer) None bytes parts = same c
-quiet_deliver c id (Some peer) (Some end) bytes parts = quiet_if c (is_full_end end) _ _ (record { threads = refl; starts = refl }) (record { threads = refl; starts = refl })
-
-quiet_push_from : (c : CoreState) (id : ℕ) (bytes : List ℕ) (end : Option ChannelEnd) → Quiet c (push_from c id bytes end).core
-quiet_push_from c id bytes None = same c
-quiet_push_from c id bytes (Some end) =
-    quiet_sweep c (deliver c id end.peer (peer_end c.objects end.peer) bytes []).core (quiet_deliver c id end.peer (peer_end c.objects end.peer) bytes [])
-
-quiet_push : (c : CoreState) (end : ℕ) (bytes : List ℕ) → Quiet c (ns_push c end bytes).core
-unfolding ns_push
-quiet_push c end bytes = quiet_push_from c end bytes (end_of c.objects end)
-
--- a message is opened and retired
-
-quiet_get_message : (c : CoreState) (object : ℕ) (end : ChannelEnd) (message : Option Message) → Quiet c (get_message c object end message).core
-quiet_get_message c object end None = quiet_if c (is_disconnected end.state) _ _ (same c) (same c)
-quiet_get_message c object end (Some message) = record { threads = refl; starts = refl }
-
-quiet_unblocked : (c : CoreState) (peer : Option ℕ) → Quiet c (peer_unblocked peer c)
-quiet_unblocked c None = same c
-quiet_unblocked c (Some peer) = record { threads = refl; starts = refl }
-
-quiet_put_message : (c : CoreState) (object : ℕ) (end : ChannelEnd) (id : ℕ) (message : Option Message) → Quiet c (put_message c object end id message).core
-quiet_put_message c object end id None = same c
-quiet_put_message c object end id (Some message) =
-    let q : Quiet _ _ = quiet_unblocked (end_changed (without_opened id) object c) end.peer in
-    record { threads = q.threads; starts = q.starts }
-
-quiet_put_from : (c : CoreState) (object id : ℕ) (end : Option ChannelEnd) → Quiet c (put_from c object id end).core
-quiet_put_from c object id None = same c
-quiet_put_from c object id (Some end) = quiet_put_message c object end id (find (is_opened_as id) end.messages)
-
-quiet_put_after : (c : CoreState) (end id : ℕ) (got : Outcome) → Quiet c got.core → Quiet c (put_after c end id got).core
-quiet_put_after c end id got q =
-    let done : Outcome = put_from got.core end id (end_of got.core.objects end) in
-    quiet_sweep c done.core (quiet_both c got.core done.core q (quiet_put_from got.core end id (end_of got.core.objects end)))
-
-quiet_take_from : (c : CoreState) (id : ℕ) (end : Option ChannelEnd) → Quiet c (take_from c id end).core
-quiet_take_from c id None = same c
-quiet_take_from c id (Some end) =
-    quiet_put_after c id (free_id end.messages) (get_message c id end (find is_filled end.messages)) (quiet_get_message c id end (find is_filled end.messages))
-
-quiet_take : (c : CoreState) (end : ℕ) → Quiet c (ns_take c end).core
-unfolding ns_take
-quiet_take c end = quiet_take_from c end (end_of c.objects end)
-
--- an end is dropped
-
-quiet_marked : (c : CoreState) (peer : Option ℕ) → Quiet c (peer_marked peer c)
-quiet_marked c None = same c
-quiet_marked c (Some peer) = record { threads = refl; starts = refl }
-
-quiet_marked_if : (c : CoreState) (broken : Bool) (end : ℕ) → Quiet c (marked_if broken end c)
-quiet_marked_if c true end = quiet_marked c (peer_of (end_of c.objects end))
-quiet_marked_if c false end = same c
-
-quiet_drop : (c : CoreState) (broken : Bool) (end : ℕ) → Quiet c (ns_drop broken end c)
-unfolding ns_drop
-quiet_drop c broken end =
-    let q : Quiet c (marked_if broken end c) = quiet_marked_if c broken end in
-    quiet_sweep c (unbridged end (marked_if broken end c)) (record { threads = q.threads; starts = q.starts })
-
-quiet_broke : (entries : List BridgeEntry) (c : CoreState) → Quiet c (fold entry_dropped c entries)
-quiet_broke [] c = same c
-quiet_broke (entry ∷ entries) c =
-    quiet_both c (entry_dropped c entry) (fold entry_dropped (entry_dropped c entry) entries) (quiet_drop c true entry.end) (quiet_broke entries (entry_dropped c entry))
+-- what leaves threads and starts leaves where every thread stands
+stay : (scripts : List (List Command)) (entries : List Entry) (c d : CoreState) → Calm c d → AllStand scripts entries c → AllStand scripts entries d
+stay scripts entries c d k all = quiet_stands scripts entries c d (record { threads = k.threads; starts = k.starts }) all
 
 module _ (scripts : List (List Command)) (entries : List Entry) where
   -- a connect
@@ -152,10 +71,10 @@ module _ (scripts : List (List Command)) (entries : List Entry) where
     holds = λ change. AllStand scripts entries change.core;
     left = all;
     connected = λ path made is. connected c path made all is;
-    pushed = λ end bytes few. quiet_stands scripts entries c _ (quiet_push c end bytes) all;
-    taken = λ end. quiet_stands scripts entries c _ (quiet_take c end) all;
-    dropped = λ end. quiet_stands scripts entries c _ (quiet_drop c false end) all;
-    broke = λ gone. quiet_stands scripts entries c _ (quiet_broke gone c) all;
+    pushed = λ end bytes few. stay scripts entries c (ns_push c end bytes).core (calm_of c (ns_push c end bytes).core (push_leaves c end bytes)) all;
+    taken = λ end. stay scripts entries c (ns_take c end).core (calm_of c (ns_take c end).core (take_leaves c end)) all;
+    dropped = λ end. stay scripts entries c (ns_drop false end c) (drop_calm c false end) all;
+    broke = λ gone. stay scripts entries c (fold entry_dropped c gone) (drops_calm c gone) all;
   }
 
   -- a step of the device keeps where every thread stands, and the clients

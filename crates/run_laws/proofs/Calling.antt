@@ -16,7 +16,7 @@ use Rattle.kernel_types.specs.Clients.{Acted, ns_act}
 use Rattle.kernel_types.specs.Outcome.{Outcome}
 use Rattle.kernel_types.specs.Scripts.{Stand, with_number, read_register, value_in, call_of, call_at, next_call, answered, stand_after, is_exit}
 use Rattle.kernel_types.specs.CoreStep.{act}
-use Rattle.run_laws.proofs.Acting.{is_ending}
+use Rattle.step_laws.specs.Walks.{is_ending}
 use Rattle.run_laws.proofs.Callers.{IsKind, is_of_thread, is_of_client, of_thread, of_client, thread_body, client_body}
 use Rattle.run_laws.proofs.Places.{IsCallable, HasCall, HasCommand}
 

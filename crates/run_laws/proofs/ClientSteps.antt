@@ -32,7 +32,7 @@ use Rattle.kernel_types.specs.Sending.{frame, leave_frame, request_frame}
 use Rattle.kernel_types.specs.Step.{beside_core, client_begin, client_resume, full_step, runs_again, step}
 use Rattle.kernel_types.specs.Whole.{final_answer}
 use Rattle.kernel_types.specs.Waits.{deadline_of, is_due, is_zero_timeout}
-use Rattle.run_laws.proofs.Acting.{is_ending}
+use Rattle.step_laws.specs.Walks.{is_ending}
 use Rattle.run_laws.proofs.Callers.{is_of_client, client_built}
 use Rattle.run_laws.proofs.Calling.{IsNext}
 use Rattle.run_laws.proofs.ClientPlaces.{ClientFits, ClientStands, ClientsStand, one_changes, one_stays}

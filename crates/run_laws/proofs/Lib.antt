@@ -1,4 +1,3 @@
-pub mod Quieting
 pub mod Callers
 pub mod Places
 pub mod Acting

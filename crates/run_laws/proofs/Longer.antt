@@ -15,7 +15,7 @@ use Rattle.kernel_values.specs.declared.state.Thread.{Thread}
 use Rattle.kernel_types.specs.Scripts.{script_begin, stand_on, answered}
 use Rattle.kernel_types.specs.Whole.{answers_in, answer_by, is_by, final_answer}
 use Rattle.runners.proofs.Fitting.{answers_more}
-use Rattle.runners.proofs.Quiet.{starts_of}
+use Rattle.step_laws.proofs.Leaving.{starts_of}
 use Rattle.runners.proofs.Scripting.{stand_more}
 use Rattle.run_laws.proofs.Calling.{has_call, answer_goes_on}
 use Rattle.run_laws.proofs.Places.{stood, HasCall, HasCommand, Fits, FitsAt, Known, AllKnown, AllStand, start_of, same_number}

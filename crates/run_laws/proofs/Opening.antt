@@ -20,7 +20,7 @@ use Rattle.kernel_types.specs.Opening.{opening, opening_app, opening_starts, ope
 use Rattle.kernel_types.specs.Scripts.{script_begin}
 use Rattle.kernel_types.specs.Turns.{opening_run}
 use Rattle.kernel_types.specs.Whole.{answers_in}
-use Rattle.runners.proofs.Quiet.{starts_of}
+use Rattle.step_laws.proofs.Leaving.{starts_of}
 use Rattle.run_laws.proofs.Callers.{by_client, by_thread, is_of_client, is_of_thread}
 use Rattle.run_laws.proofs.ClientPlaces.{ClientStands, ClientsStand}
 use Rattle.run_laws.proofs.Places.{IsCallable, stood, HasCall, Fits, Stands, start_of, get_map, map_get}

@@ -18,7 +18,7 @@ use Rattle.kernel_types.specs.Scripts.{Stand, script_begin, stand_on, is_exit}
 use Rattle.kernel_types.specs.CoreStep.{cancelled_activity, core_idle}
 use Rattle.kernel_types.specs.Threads.{with_activity, activity_changed, waiting_activity, running_activity}
 use Rattle.kernel_types.specs.Whole.{answers_in}
-use Rattle.runners.proofs.Quiet.{Quiet, starts_of, starts_stay}
+use Rattle.step_laws.proofs.Leaving.{Quiet, starts_of, starts_stay}
 use Rattle.run_laws.proofs.Callers.{is_of_thread}
 
 -- every command's call is of this kind

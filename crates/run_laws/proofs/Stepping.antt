@@ -26,13 +26,14 @@ use Rattle.kernel_types.specs.Sweep.{sweep, kept, pruned}
 use Rattle.kernel_types.specs.Threads.{with_activity, activity_changed, running_activity}
 use Rattle.kernel_types.specs.Waits.{end_of_wait}
 use Rattle.kernel_types.proofs.Actors.{thread_is_thread}
-use Rattle.runners.proofs.Quiet.{Quiet, starts_of}
-use Rattle.run_laws.proofs.Acting.{is_ending, Upheld, act_upholds}
+use Rattle.step_laws.proofs.Leaving.{Quiet, starts_of}
+use Rattle.step_laws.specs.Walks.{is_ending}
+use Rattle.run_laws.proofs.Acting.{Upheld, act_upholds}
 use Rattle.run_laws.proofs.Callers.{is_of_thread, thread_built}
 use Rattle.run_laws.proofs.Calling.{IsNext}
 use Rattle.run_laws.proofs.Longer.{self_is, IsOf, begin_is_of, resume_is_of, longer, all_longer, all_answered, others_longer, known_after, answered_fits, waits_fits}
 use Rattle.run_laws.proofs.Places.{stood, HasCommand, Fits, FitsAt, Known, Stands, AllKnown, AllStand, OthersFit, start_of, same_start_ended, fits_ended, map_at_get, apart, quiet_stands, waiting_stands, running_stands, started_stands, ended_stands, idle_stands}
-use Rattle.run_laws.proofs.Quieting.{quiet_end}
+use Rattle.step_laws.proofs.TurnLeaving.{quiet_end}
 
 swept_stands : (scripts : List (List Command)) (entries : List Entry) (c : CoreState) → AllStand scripts entries c → AllStand scripts entries (sweep c)
 unfolding sweep kept pruned

@@ -4,7 +4,6 @@ pub mod Ending
 pub mod Fitting
 pub mod Numbers
 pub mod Ordering
-pub mod Quiet
 pub mod Scripting
 pub mod Serving
 pub mod Starting

@@ -45,7 +45,7 @@ use Rattle.step_laws.specs.Walks.{MadeBy, MayJoin, Awaits, Row, SmallWalk, Threa
 use Rattle.step_laws.specs.Walks.Awaits.{for_any, for_connect, for_object}
 use Rattle.step_laws.specs.Walks.Row.{goes_on, stays}
 use Rattle.step_laws.specs.Walks.ThreadChange.{app_over, app_started, member_added, set_made, thread_over, wait_begun}
-use Rattle.step_laws.proofs.Leaving.{untouched}
+use Rattle.step_laws.proofs.Leaving.{row_leaves}
 use Rattle.step_laws.proofs.Outcomes.{Acts, Comes, Said, may_list}
 use Rattle.step_laws.proofs.Outcomes.Said.{says_no_list}
 use Rattle.step_laws.proofs.There.{client_given, pair_given}
@@ -134,7 +134,7 @@ module _ (app thread : ℕ) (s : CoreState) (who : (b : CoreState) → b.threads
   unfolding set_create
   set_goes c k =
       let made : Outcome = gives (reply.Handle (free_handle (table_of c app))) (install app c.next (added (body.Set (record { members = [] })) c)) in
-      without_if (is_full (table_of c app)) errno.NoResources c made k (λ room. by_itself made c k (set_made refl (who c (untouched (Some app) s c k.row).threads) room) refl (says_no_list refl))
+      without_if (is_full (table_of c app)) errno.NoResources c made k (λ room. by_itself made c k (set_made refl (who c (row_leaves (Some app) s c k.row).threads) room) refl (says_no_list refl))
 
   module _ (c : CoreState) (k : SmallWalk (Some app) s [] c) (held handle : ℕ) (mask : Events) (cookie : ℕ) where
     add_member : (id : ℕ) (set : HandleSet) (entry : TableEntry) → set_of c.objects id ≡ Some set → entry_at (table_of c app) handle ≡ Some entry

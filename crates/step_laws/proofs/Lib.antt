@@ -9,3 +9,5 @@ pub mod Steps
 pub mod Invariants
 pub mod Turns
 pub mod Shapes
+pub mod TurnLeaving
+pub mod BridgeLeaving

@@ -50,7 +50,7 @@ use Rattle.step_laws.specs.Walks.Row.{goes_on, stays}
 use Rattle.step_laws.proofs.Acting.{DoesIf, act_goes}
 use Rattle.step_laws.proofs.Bridged.{DeviceKeepsIf, OfDevice, device_keeps}
 use Rattle.step_laws.proofs.Calls.{GoesIf, deliver_goes, end_of_wait_goes, get_message_goes, get_message_seqs, not_false, only_opened, put_from_told}
-use Rattle.step_laws.proofs.Leaving.{untouched}
+use Rattle.step_laws.proofs.Leaving.{row_leaves}
 use Rattle.step_laws.proofs.Outcomes.{Comes}
 use Rattle.step_laws.proofs.Rows.{no_change, one_more}
 use Rattle.step_laws.proofs.There.{client_given, pair_given}
@@ -73,7 +73,7 @@ module _ (asked : Option Call) (by : Option ℕ) (s c : CoreState) (who : (b : C
   row_walks d k (goes_on _ b row change is) =
       let old : CoreWalk asked s (told_by (SmallChange by) (after by) (moves by) c b row) b = row_walks b k row in
       record {
-        row = goes_on d b old.row (by_small by (who b (untouched by c b row).threads) change) is;
+        row = goes_on d b old.row (by_small by (who b (row_leaves by c b row).threads) change) is;
         tells = ap (λ (us : List Move). moves by b change ++ us) old.tells;
       }
 
@@ -111,7 +111,7 @@ module _ (c : CoreState) (thread : ℕ) (found : Thread) (there : slice_get c.th
   resumed_walks start wait waited goes None comes = tt
   resumed_walks start wait waited goes (Some outcome) comes =
       let small : CoreWalk None c (moves_of outcome.seqs) outcome.core = small_walks None (Some found.app) c c (acting c thread found there goes) outcome.core (from_here None c) comes.walk in
-      let still : outcome.core.threads ≡ c.threads = (untouched (Some found.app) c outcome.core comes.walk.row).threads in
+      let still : outcome.core.threads ≡ c.threads = (row_leaves (Some found.app) c outcome.core comes.walk.row).threads in
       let runs : CoreState = with_activity running_activity thread outcome.core in
       let all : CoreWalk None c (moves_of outcome.seqs) runs =
       further c outcome.core small (wait_over thread start found wait (ap (λ (l : List Thread). slice_get l thread) still ∙ there) waited) refl in

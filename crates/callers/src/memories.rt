@@ -1,0 +1,25 @@
+//! A caller of `memref`.
+
+ghost use Rattle.std.specs.Prelude.{◌≡◌, length, OnOk, OnErr};
+ghost use Rattle.memref.specs.Ranges.{answer_of, write_refusal, part, overwritten};
+
+use kernel_values::Errno;
+use memref::MemRef;
+
+/// Writes bytes from `offset` on, and gives what stood there before in `before`, which is as long. Refused as a write is,
+/// and the memory then stays.
+pub fn exchange(
+    memory: &mut MemRef,
+    offset: u32,
+    bytes: &[u8],
+    before: &mut [u8],
+) -> Result<(), Errno>
+    requires { length before.old ≡ length bytes.now }
+    ensures answer { result ≡ answer_of (write_refusal memory.old offset (length bytes.now)) }
+    ensures before { OnOk result (before.new ≡ part memory.old.bytes offset (length bytes.now)) }
+    ensures written { OnOk result (memory.new ≡ record memory.old { bytes = overwritten memory.old.bytes offset bytes.now }) }
+    ensures kept { OnErr result (memory.new ≡ memory.old) }
+{
+    memory.read_into(offset, before)?;
+    memory.write(offset, bytes)
+}
