@@ -22,6 +22,7 @@ pub fn entries_so_far<V: Recorded + Drop>(
     ensures rests { (view pass.new).has_turn ≡ false }
     ensures entries { result ≡ length (view pass.new).seen }
     ensures history { Continues (view pass.old) (view pass.new).seen }
+    ensures mine { (view pass.new).mine ≡ (view pass.old).mine }
 {
     let value = lock.enter(rt, pass);
     let entries = value.recorded();

@@ -1,6 +1,7 @@
 //! A caller of `virtqueue`.
 
-ghost use Rattle.std.specs.Prelude.{◌≡◌, true, false, None, Ok, Err, length, IfOk, IfErr, IfSome};
+ghost use Rattle.std.specs.Prelude.{◌≡◌, true, false, Ok, length, IfOk, IfSome, OnErr};
+ghost use Rattle.callers.specs.Skips.{is_there};
 ghost use Rattle.virtqueue.specs.Chains.{chain};
 ghost use Rattle.virtqueue.specs.Layout.{IsQueue, used_pushed, next_index};
 
@@ -10,10 +11,11 @@ use virtqueue::{MEMORY_SIZE, Queue, RingFault, next_chain, push_used};
 pub fn skip_chain(mem: &mut [u8], queue: &mut Queue) -> Result<bool, RingFault>
     requires memory { length mem.old ≡ MEMORY_SIZE }
     requires queue { IsQueue queue.old }
-    ensures fault { IfErr result (λ fault. chain mem.old queue.old ≡ Err fault) }
-    ensures none { result ≡ Ok false → (chain mem.old queue.old ≡ Ok None) × (mem.new ≡ mem.old) × (queue.new ≡ queue.old) }
-    ensures some { result ≡ Ok true → IfOk (chain mem.old queue.old) (λ found. IfSome found (λ next. mem.new ≡ used_pushed mem.old queue.old next.head 0)) }
+    ensures answer { result ≡ is_there (chain mem.old queue.old) }
+    ensures given { result ≡ Ok true → IfOk (chain mem.old queue.old) (λ found. IfSome found (λ next. mem.new ≡ used_pushed mem.old queue.old next.head 0)) }
     ensures further { result ≡ Ok true → queue.new ≡ record queue.old { position = next_index queue.old.position; used = next_index queue.old.used } }
+    ensures none { result ≡ Ok false → (mem.new ≡ mem.old) × (queue.new ≡ queue.old) }
+    ensures fault { OnErr result ((mem.new ≡ mem.old) × (queue.new ≡ queue.old)) }
 {
     let Some(next) = next_chain(mem, queue)? else {
         return Ok(false);
