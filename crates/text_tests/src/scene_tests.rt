@@ -1,12 +1,13 @@
 //! Scenes that are read, and the first fault of others.
 
-use kernel_values::{Call, INVALID_IPC_HANDLE, Turn};
+use kernel_values::{Call, INVALID_IPC_HANDLE, Scene, Turn};
 use scene_reader::SceneKind::{
     BadByte, BadManifest, BadWords, NameTaken, NoHeader, OpenRepeat, OutOfPlace, TooMany,
     UnknownWord,
 };
 use scene_reader::{SceneFault, SceneKind, SceneRefused, read_scene};
 use std::alloc::Global;
+use std::process::Abort;
 use std::test::Fail;
 
 // The first fault of the text, if it is no scene.
@@ -204,12 +205,8 @@ fn client_names(rt: HostRuntime) {
     );
 }
 
-// Clients come after the applications, each with a script of its own.
-#[test]
-fn a_scene_with_clients(rt: HostRuntime) -> Result<(), Fail> {
-    let text =
-        b"scene 1\napp a\nthread\nset\nqueues 256\nset\nclient c\nrepeat 2\nnconnect p as k\nend\nnsend $k text:hi\nclient device\nnrecv 7 -1\nnclose 7\napp b\nturns\nD";
-    let scene = read_scene(rt.alloc(), text)?;
+// The clients of the scene of the next test, each with a script of its own.
+fn check_clients(rt: &impl Abort, scene: &Scene) -> Result<(), Fail> {
     assert_eq!(rt; scene.apps.len(), 2);
     assert_eq!(rt; scene.queue, 256);
     assert_eq!(rt; scene.clients.len(), 2);
@@ -217,24 +214,28 @@ fn a_scene_with_clients(rt: HostRuntime) -> Result<(), Fail> {
     let client = scene.clients.get(0).ok_or("the first client")?;
     assert_eq!(rt; client.name.as_slice(), b"c".as_slice());
     assert_eq!(rt; client.script.as_slice().len(), 3);
-    for command in client.script.as_slice() {
-        if let Call::NsSend { conn, bytes } = &command.call {
-            assert_eq!(rt; *conn, INVALID_IPC_HANDLE);
-            assert_eq!(rt; bytes.as_slice(), b"hi".as_slice());
-            assert_eq!(rt; command.reads.len(), 1);
-        }
-    }
+    let sends = client.script.as_slice().get(2).ok_or("the last call")?;
+    let Call::NsSend { conn, bytes } = &sends.call else {
+        return Err("no send".into());
+    };
+    assert_eq!(rt; *conn, INVALID_IPC_HANDLE);
+    assert_eq!(rt; bytes.as_slice(), b"hi".as_slice());
+    assert_eq!(rt; sends.reads.len(), 1);
     let other = scene.clients.get(1).ok_or("the second client")?;
     assert_eq!(rt; other.script.as_slice().len(), 2);
     Ok(())
 }
 
-// Registers are numbered as they are first named, and a repeat stands as often as it says.
 #[test]
-fn a_scene(rt: HostRuntime) -> Result<(), Fail> {
+fn clients_come_after_the_applications(rt: HostRuntime) -> Result<(), Fail> {
     let text =
-        b"scene 1\napp a\nthread\nset as s\nrepeat 2\nsend $s text:hi 7 $t\nend\napp b\nturns\n1 D\nI";
+        b"scene 1\napp a\nthread\nset\nqueues 256\nset\nclient c\nrepeat 2\nnconnect p as k\nend\nnsend $k text:hi\nclient device\nnrecv 7 -1\nnclose 7\napp b\nturns\nD";
     let scene = read_scene(rt.alloc(), text)?;
+    check_clients(&rt, &scene)
+}
+
+// Registers are numbered as they are first named, and a repeat stands as often as it says.
+fn check_repeat(rt: &impl Abort, scene: &Scene) -> Result<(), Fail> {
     assert_eq!(rt; scene.apps.len(), 2);
     assert_eq!(rt; scene.queue, 16);
     assert_eq!(rt;
@@ -244,14 +245,26 @@ fn a_scene(rt: HostRuntime) -> Result<(), Fail> {
     let app = scene.apps.get(0).ok_or("the first application")?;
     assert_eq!(rt; app.manifest.uuid, 1);
     let script = app.threads.get(0).ok_or("its thread")?;
-    assert_eq!(rt; script.as_slice().len(), 3);
-    for command in script.as_slice() {
-        if let Call::Send { chan, bytes, parts } = &command.call {
-            assert_eq!(rt; *chan, INVALID_IPC_HANDLE);
-            assert_eq!(rt; bytes.as_slice(), b"hi".as_slice());
-            assert_eq!(rt; parts.as_slice(), [7, INVALID_IPC_HANDLE].as_slice());
-            assert_eq!(rt; command.reads.len(), 2);
-        }
+    let [set, first, second] = script.as_slice() else {
+        return Err("three calls".into());
+    };
+    assert!(rt; matches!(set.call, Call::SetCreate));
+    for command in [first, second] {
+        let Call::Send { chan, bytes, parts } = &command.call else {
+            return Err("no send".into());
+        };
+        assert_eq!(rt; *chan, INVALID_IPC_HANDLE);
+        assert_eq!(rt; bytes.as_slice(), b"hi".as_slice());
+        assert_eq!(rt; parts.as_slice(), [7, INVALID_IPC_HANDLE].as_slice());
+        assert_eq!(rt; command.reads.len(), 2);
     }
     Ok(())
+}
+
+#[test]
+fn a_repeat_stands_as_often_as_it_says(rt: HostRuntime) -> Result<(), Fail> {
+    let text =
+        b"scene 1\napp a\nthread\nset as s\nrepeat 2\nsend $s text:hi 7 $t\nend\napp b\nturns\n1 D\nI";
+    let scene = read_scene(rt.alloc(), text)?;
+    check_repeat(&rt, &scene)
 }
