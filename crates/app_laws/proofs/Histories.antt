@@ -15,7 +15,7 @@ use Rattle.kernel_values.specs.declared.state.CoreState.{CoreState}
 use Rattle.kernel_values.specs.declared.state.State.{State}
 use Rattle.kernel_values.specs.declared.state.Thread.{Thread}
 use Rattle.kernel_types.specs.Applications.{is_over}
-use Rattle.kernel_types.specs.History.{Legal, next_state, state_after, state_or}
+use Rattle.kernel_types.specs.History.{Legal, state_after}
 use Rattle.kernel_types.specs.Opening.{opening, opening_activity, opening_app, opening_threads}
 use Rattle.kernel_types.specs.Step.{Stepped, step}
 use Rattle.kernel_types.specs.Tables.{table_in}

@@ -10,7 +10,7 @@ use Rattle.kernel_values.specs.declared.state.CoreState.{CoreState}
 use Rattle.kernel_values.specs.declared.state.TableEntry.{TableEntry}
 use Rattle.kernel_values.specs.declared.state.Thread.{Thread}
 use Rattle.kernel_types.specs.Applications.{application_ended, ended_activity, ended_app, ended_thread, is_over, is_started_again, started, started_app, started_as, started_thread, without_app}
-use Rattle.kernel_types.specs.Objects.{map_at, set_if}
+use Rattle.kernel_types.specs.Objects.{map_at}
 use Rattle.kernel_types.specs.CoreStep.{cancelled_activity, core_idle}
 use Rattle.kernel_types.specs.Tables.{table_changed}
 use Rattle.kernel_types.specs.Threads.{activity_changed}

@@ -1,10 +1,9 @@
 -- Every step leaves a settled state: tables are changed by threads that have not ended, whose applications run, and the normal
 -- world gives an application nothing but a start.
-use Rattle.std.proofs.Common.{◌≡◌, ℕ, true, false, Bool, List, Option, Some, None, refl, sym, ◌∙◌, ap, subst}
+use Rattle.std.proofs.Common.{◌≡◌, ℕ, true, false, List, Option, Some, None, refl, sym, ◌∙◌, subst}
 use Rattle.std.specs.Prelude.{slice_get}
 use Rattle.kernel_values.specs.declared.call.Call.{Call}
 use Rattle.kernel_values.specs.declared.reply.Answer.{Answer}
-use Rattle.kernel_values.specs.declared.state.Activity.{Activity}
 use Rattle.kernel_values.specs.declared.state.Activity.TheVariants as activity
 use Rattle.kernel_values.specs.declared.state.CoreState.{CoreState}
 use Rattle.kernel_values.specs.declared.state.Thread.{Thread}

@@ -1,6 +1,5 @@
 -- What threads answer: at most 65,536 bytes and 8 handles, lists only for the calls that read, and what is listed fits in its room.
-use Rattle.std.proofs.Common.{◌≡◌, ◌≤◌, ℕ, suc, Bool, true, false, List, [], ◌∷◌, length, take, drop, Option, Some, None, refl, sym, subst, ap, arith, length-take, length-drop}
-use Rattle.std.specs.List.{find}
+use Rattle.std.proofs.Common.{◌≡◌, ◌≤◌, ℕ, suc, Bool, true, false, List, [], ◌∷◌, length, take, drop, Option, Some, refl, sym, subst, ap, arith, length-take, length-drop}
 use Rattle.std.proofs.lemmas.List.Elements.{recursion_from_All}
 use Rattle.kernel_values.specs.declared.call.Call.{Call}
 use Rattle.kernel_values.specs.declared.call.Call.TheVariants as call
@@ -9,10 +8,9 @@ use Rattle.kernel_values.specs.declared.reply.Answer.TheVariants as answer
 use Rattle.kernel_values.specs.declared.reply.Reply.{Reply}
 use Rattle.kernel_values.specs.declared.reply.Reply.TheVariants as reply
 use Rattle.kernel_values.specs.declared.state.CoreState.{CoreState}
-use Rattle.kernel_values.specs.declared.state.Message.{Message}
 use Rattle.kernel_values.specs.declared.state.TableEntry.{TableEntry}
 use Rattle.kernel_types.specs.CoreStep.{core_begin, core_resume}
-use Rattle.kernel_types.specs.Limits.{FitsIn, IsEndWithin, IsMessageWithin, IsSmallAnswer, Room, bytes_of, bytes_of_reply, full_room, handles_of, handles_of_reply, listed_in, listed_in_reply, no_room, room_of_call}
+use Rattle.kernel_types.specs.Limits.{FitsIn, IsEndWithin, IsMessageWithin, IsSmallAnswer, Room, full_room, no_room, room_of_call}
 use Rattle.kernel_types.specs.Messages.{all_handles, is_opened_as}
 use Rattle.kernel_types.specs.Outcome.{Outcome}
 use Rattle.kernel_types.specs.Tables.{installed, table_of}

@@ -1,22 +1,21 @@
 -- The story of every end is in order, in every history from an opening state.
-use Rattle.std.proofs.Common.{◌≡◌, ℕ, List, [], ◌∷◌, ◌++◌, ◌+◌, true, false, Option, Some, None, refl, sym, subst, append_assoc, append-nil, ◌∙◌}
-use Rattle.std.specs.List.{cons_option}
+use Rattle.std.proofs.Common.{◌≡◌, ℕ, List, [], ◌∷◌, ◌++◌, ◌+◌, true, false, Option, Some, None, refl, sym, subst, append_assoc, append-nil}
+use Rattle.std.specs.List.{cons_option, filter}
 use Rattle.kernel_values.specs.SceneLaw.{SceneValue}
 use Rattle.kernel_values.specs.declared.entry.Entry.{Entry}
 use Rattle.kernel_values.specs.declared.state.State.{State}
 use Rattle.kernel_types.specs.Stories.{Story, IsInOrder, story_of, number_at}
-use Rattle.kernel_types.specs.History.{Legal, state_after}
+use Rattle.kernel_types.specs.History.{Legal, entry_of, next_state, state_or}
 use Rattle.kernel_types.specs.Opening.{opening}
 use Rattle.kernel_types.specs.CoreStep.{core_idle}
 use Rattle.kernel_laws.proofs.Found.{found}
 use Rattle.kernel_laws.proofs.Tales.{in_order, told_begun, untold}
 use Rattle.kernel_values.specs.declared.state.CoreState.{CoreState}
 use Rattle.kernel_types.specs.Applications.{application_ended, started}
-use Rattle.kernel_types.specs.Ports.{admitted}
+use Rattle.kernel_types.specs.Ports.{admitted, new_port, server_end}
 use Rattle.kernel_laws.proofs.Publishing.{publish_tells}
 use Rattle.kernel_laws.proofs.Starts.{same_ended, same_idle, same_started}
-use Rattle.kernel_laws.proofs.Tells.{Tells, tells_added, tells_changed, tells_filtered, tells_mapped, tells_opened, tells_retired, tells_sent, Told, appended, longer, queue_if}
-use Rattle.std.specs.List.{filter}
+use Rattle.kernel_laws.proofs.Tells.{Tells, tells_added, tells_changed, tells_filtered, tells_mapped, tells_opened, tells_retired, tells_sent, Told, appended, longer, queue_if, Quiet, quiet_end, quiet_memory, quiet_port, quiet_set}
 use Rattle.std.specs.Option.{option_map}
 use Rattle.kernel_values.specs.declared.call.Call.{Call}
 use Rattle.kernel_values.specs.declared.entry.EndSeq.{EndSeq}
@@ -29,17 +28,14 @@ use Rattle.kernel_values.specs.declared.state.EndState.TheVariants as end_state
 use Rattle.kernel_values.specs.declared.state.Object.{Object}
 use Rattle.kernel_values.specs.declared.state.Port.{Port}
 use Rattle.kernel_types.specs.Connects.{accept_client, accepted_end, peer_of}
-use Rattle.kernel_types.specs.History.{entry_of, next_state, state_or}
 use Rattle.kernel_types.specs.Memories.{new_memory, written}
 use Rattle.kernel_types.specs.Messages.{free_id}
 use Rattle.kernel_types.specs.Objects.{added, changed, end_changed, end_of, new_end, on_body, on_end, on_memory, on_port, on_set, port_changed, with_objects}
-use Rattle.kernel_types.specs.Ports.{new_port, server_end}
 use Rattle.kernel_types.specs.Reach.{is_in}
 use Rattle.kernel_types.specs.Reports.{with_last}
 use Rattle.kernel_types.specs.Sets.{new_member, remasked, with_member, without_label}
 use Rattle.kernel_types.specs.Step.{Stepped, step}
 use Rattle.kernel_types.specs.Sweep.{cut_end, kept, pruned, pruned_port, reached, sweep}
-use Rattle.kernel_laws.proofs.Tells.{Quiet, quiet_end, quiet_memory, quiet_port, quiet_set}
 use Rattle.step_laws.specs.SmallChanges.{Mark, Move, SmallChange, after, marked_by, moves}
 use Rattle.step_laws.specs.SmallChanges.Mark.{mark_blocked, mark_decided, mark_error, mark_reported, mark_unblocked}
 use Rattle.step_laws.specs.SmallChanges.Move.{was_opened, was_retired, was_sent}

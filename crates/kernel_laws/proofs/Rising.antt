@@ -1,6 +1,5 @@
 -- Object numbers rise, and none is given twice.
 use Rattle.std.proofs.Common.{◌≡◌, ◌≤◌, ◌<◌, ℕ, ◌+◌, ◌++◌, ◌==◌, ◌||◌, Bool, true, false, cond, not, List, [], ◌∷◌, length, map, Option, Some, None, refl, sym, ◌∙◌, subst, ap, arith, tests, append_assoc, append-nil, length-append}
-use Rattle.std.specs.Prelude.{Ok}
 use Rattle.std.specs.List.{filter, position_or_len}
 use Rattle.std.specs.Option.{option_map, option_or, is_some}
 use Rattle.kernel_values.specs.SceneLaw.{SceneValue}
@@ -12,15 +11,12 @@ use Rattle.kernel_values.specs.declared.state.Port.{Port}
 use Rattle.kernel_values.specs.declared.state.CoreState.{CoreState}
 use Rattle.kernel_values.specs.declared.state.State.{State}
 use Rattle.kernel_types.specs.Applications.{application_ended, started}
-use Rattle.kernel_types.specs.Bridge.{ns_connect, ns_drop, ns_push, ns_take}
-use Rattle.kernel_types.specs.History.{Legal, state_after}
-use Rattle.kernel_types.specs.Messages.{with_message, with_opened, without_opened}
-use Rattle.kernel_types.specs.Objects.{changed, is_there, on_body, on_end}
+use Rattle.kernel_types.specs.History.{state_after}
+use Rattle.kernel_types.specs.Objects.{changed, is_there, on_body, on_set}
 use Rattle.kernel_types.specs.Opening.{opening}
 use Rattle.kernel_types.specs.Ports.{admitted, decided, end_is_admitted, new_server, publish, server_of}
 use Rattle.kernel_types.specs.CoreStep.{core_idle}
 use Rattle.kernel_types.specs.Step.{Stepped, step}
-use Rattle.kernel_types.specs.Sweep.{sweep}
 use Rattle.kernel_laws.specs.Numbers.{HasRisingNumbers, IsSpent, RisesFrom}
 use Rattle.kernel_laws.proofs.Found.{changed_cons, found, found_append, found_changed, found_filter, found_map}
 use Rattle.kernel_laws.proofs.Publishing.{servers_new}
@@ -31,7 +27,6 @@ use Rattle.kernel_values.specs.declared.entry.Seqs.{Seqs}
 use Rattle.kernel_values.specs.declared.reply.Answer.{Answer}
 use Rattle.step_laws.specs.Walks.{IsWalk, ThreadChange, after_thread}
 use Rattle.step_laws.specs.Walks.ThreadChange.{app_over, app_started, member_added, set_made}
-use Rattle.kernel_types.specs.Objects.{on_set}
 use Rattle.kernel_types.specs.Sets.{new_member, with_member}
 use Rattle.step_laws.proofs.Invariants.{Invariant, holds_along, step_keeps, walk_keeps}
 use Rattle.step_laws.proofs.Shapes.{Shape, by_shapes, shaped, swept_by_shapes}

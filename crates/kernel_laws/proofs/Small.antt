@@ -11,7 +11,7 @@ use Rattle.kernel_values.specs.declared.state.State.{State}
 use Rattle.kernel_types.specs.History.{Legal, entry_of, next_state, state_after, state_or}
 use Rattle.kernel_types.specs.Opening.{opening}
 use Rattle.kernel_types.specs.Step.{Stepped, step}
-use Rattle.kernel_types.specs.Limits.{FitsIn, Room, room_of, IsBodyWithin, IsInboxWithin, IsSmallAnswer, IsWithinLimits}
+use Rattle.kernel_types.specs.Limits.{FitsIn, room_of, IsBodyWithin, IsInboxWithin, IsSmallAnswer, IsWithinLimits}
 use Rattle.kernel_laws.proofs.WithinChanges.{step_within}
 use Rattle.kernel_laws.proofs.WithinSteps.{StepFine, WithinState, step_fine}
 

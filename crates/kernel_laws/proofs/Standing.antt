@@ -8,8 +8,8 @@ use Rattle.kernel_values.specs.declared.reply.Answer.{Answer}
 use Rattle.kernel_values.specs.declared.state.Activity.{Activity}
 use Rattle.kernel_values.specs.declared.state.TableEntry.{TableEntry}
 use Rattle.kernel_types.specs.Sweep.{kept, pruned, sweep}
-use Rattle.kernel_types.specs.Tables.{with_table}
-use Rattle.kernel_types.specs.Threads.{running_activity, waiting_activity, with_activity}
+use Rattle.kernel_types.specs.Tables.{with_table, table_changed}
+use Rattle.kernel_types.specs.Threads.{running_activity, waiting_activity, with_activity, activity_changed}
 use Rattle.step_laws.specs.SmallChanges.{SmallChange, after}
 use Rattle.step_laws.specs.SmallChanges.SmallChange.{cookie_changed, end_accepted, entry_installed, entry_removed, last_changed, parts_installed}
 use Rattle.step_laws.specs.Walks.{ThreadChange, after_thread, asked_by}
@@ -19,11 +19,9 @@ use Rattle.step_laws.proofs.Leaving.{accept_keeps}
 use Rattle.step_laws.proofs.Steps.{StepWalks, step_walks}
 use Rattle.kernel_values.specs.declared.world.World.{World}
 use Rattle.kernel_types.specs.Objects.{map_at}
-use Rattle.kernel_types.specs.Tables.{table_changed}
 use Rattle.kernel_types.specs.Applications.{ended_activity, started, started_as, application_ended, is_started_again, without_app, started_app, started_thread, ended_app, ended_thread}
 use Rattle.kernel_types.specs.Outcome.{Outcome}
 use Rattle.kernel_values.specs.declared.state.Application.{Application}
-use Rattle.kernel_types.specs.Threads.{activity_changed}
 use Rattle.kernel_values.specs.declared.entry.Event.{Event}
 use Rattle.kernel_values.specs.declared.state.State.{State}
 use Rattle.kernel_types.specs.CoreStep.{core_begin, core_resume, core_idle, cancelled_activity}

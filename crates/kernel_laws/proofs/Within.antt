@@ -1,12 +1,8 @@
 -- Limits on each object, and which changes of the objects keep them.
-use Rattle.std.proofs.Common.{◌≡◌, ◌≤◌, ℕ, zero, suc, ◌==◌, Bool, true, false, cond, List, [], ◌∷◌, ◌++◌, length, map, Option, Some, None, refl, sym, ◌∙◌, subst, ap, arith}
-use Rattle.std.specs.Prelude.{if◌then◌else◌, slice_get}
+use Rattle.std.proofs.Common.{◌≡◌, ◌≤◌, ℕ, zero, suc, ◌==◌, Bool, true, false, cond, List, [], ◌∷◌, ◌++◌, length, map, Option, Some, None, refl, sym, ◌∙◌, subst, ap}
+use Rattle.std.specs.Prelude.{slice_get}
 use Rattle.std.specs.List.{AllByRecursion, filter, find}
 use Rattle.std.specs.Option.{option_map}
-use Rattle.kernel_values.specs.declared.errno.Errno.{Errno}
-use Rattle.kernel_values.specs.declared.entry.Seqs.{Seqs}
-use Rattle.kernel_values.specs.declared.reply.Reply.{Reply}
-use Rattle.kernel_values.specs.declared.reply.Reply.TheVariants as reply
 use Rattle.kernel_values.specs.declared.state.Object.{Object}
 use Rattle.kernel_values.specs.declared.state.Body.{Body}
 use Rattle.kernel_values.specs.declared.state.Body.TheVariants as body
@@ -16,8 +12,7 @@ use Rattle.kernel_values.specs.declared.state.Port.{Port}
 use Rattle.kernel_values.specs.declared.state.HandleSet.{HandleSet}
 use Rattle.kernel_values.specs.declared.state.CoreState.{CoreState}
 use Rattle.kernel_types.specs.Objects.{set_if, map_at, as_end, as_memory, as_set, set_in, set_of, end_of, memory_of, object_of, end_in, port_in, memory_in, on_body, on_port, on_end, on_set, on_memory, changed}
-use Rattle.kernel_types.specs.Outcome.{Outcome, gives, gives_with, refuses}
-use Rattle.kernel_types.specs.Limits.{IsBodyWithin, IsEndWithin, IsPortWithin, IsSmallAnswer, bytes_of_reply, handles_of_reply, FitsIn, Room, full_room, listed_in_reply, no_room}
+use Rattle.kernel_types.specs.Limits.{IsBodyWithin, IsEndWithin, IsPortWithin}
 use Rattle.kernel_laws.proofs.Found.{changed_cons, found_is}
 
 abbrev pub Within : List Object → Type 0

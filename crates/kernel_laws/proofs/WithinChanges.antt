@@ -1,6 +1,6 @@
 -- The objects stay within their limits.
-use Rattle.std.proofs.Common.{Bool, List, None, Option, Some, [], ap, arith, cond, drop, false, find, length, length-append, length-drop, length-take, map, not, refl, subst, suc, sym, take, tests, true, ℕ, ◌&&◌, ◌++◌, ◌+◌, ◌<◌, ◌==◌, ◌∷◌, ◌≡◌, ◌≤◌}
-use Rattle.std.specs.Prelude.{nat_le}
+use Rattle.std.proofs.Common.{Bool, List, None, Option, Some, [], ap, arith, cond, drop, false, find, length, length-append, length-drop, length-take, map, not, refl, subst, suc, sym, take, tests, true, ℕ, ◌&&◌, ◌++◌, ◌+◌, ◌<◌, ◌==◌, ◌∷◌, ◌≡◌, ◌≤◌, zero}
+use Rattle.std.specs.Prelude.{nat_le, Ok, slice_get}
 use Rattle.kernel_values.specs.Words.{is_path}
 use Rattle.kernel_values.specs.declared.flags.PortFlags.{PortFlags}
 use Rattle.kernel_values.specs.declared.state.ChannelEnd.{ChannelEnd}
@@ -10,31 +10,29 @@ use Rattle.kernel_values.specs.declared.state.Port.{Port}
 use Rattle.kernel_values.specs.declared.state.CoreState.{CoreState}
 use Rattle.kernel_values.specs.declared.state.EndState.{EndState}
 use Rattle.std.proofs.lemmas.List.Elements.{All-filter, All-from_recursion, All-nil, All-push, recursion_from_All}
-use Rattle.kernel_types.specs.Objects.{changed, new_end, on_body, on_end, on_port, on_set}
+use Rattle.kernel_types.specs.Objects.{changed, new_end, on_body, on_end, on_port, on_set, added, end_changed, end_of, port_changed, has_path, map_at, port_in, published, set_if}
 use Rattle.kernel_types.specs.Tables.{entry_at, table_of}
-use Rattle.kernel_types.specs.Ports.{admits_client, admitted, connecting_end, decided, decided_end, denied_end, is_lawful_port, is_waiting, new_port, new_server, publish_to, server_of, waits_for}
-use Rattle.kernel_types.specs.Connects.{accepted_end}
+use Rattle.kernel_types.specs.Ports.{admits_client, admitted, connecting_end, decided, decided_end, denied_end, is_lawful_port, is_waiting, new_port, new_server, publish_to, server_of, waits_for, server_end}
+use Rattle.kernel_types.specs.Connects.{accepted_end, Way, accept_client, app_place, may_serve, peer_of, pending_pair, start_flags, waiting_client, way_by_app, way_by_body, way_by_port, way_by_start_port, way_of}
 use Rattle.kernel_types.specs.Events.{events_of, is_filled, is_ready_member}
 use Rattle.kernel_types.specs.Applications.{application_ended, started}
 use Rattle.kernel_types.specs.Reports.{with_last}
-use Rattle.kernel_types.specs.Limits.{IsEndWithin, IsMessageWithin, IsPortWithin}
+use Rattle.kernel_types.specs.Limits.{IsEndWithin, IsMessageWithin, IsPortWithin, IsBodyWithin}
 use Rattle.kernel_laws.proofs.Starts.{same_ended, same_started}
 use Rattle.std.specs.List.{filter, find, position_or_len}
 use Rattle.kernel_values.specs.declared.state.Message.{Message}
-use Rattle.kernel_types.specs.Messages.{entry_object, free_id, is_full_end, is_opened_as, new_message, opened_as, part_objects, with_message, with_opened, without_opened}
+use Rattle.kernel_types.specs.Messages.{entry_object, free_id, is_full_end, is_opened_as, new_message, opened_as, with_message, with_opened, without_opened}
 use Rattle.std.proofs.lemmas.List.{length-map, length-replicate}
 use Rattle.kernel_values.specs.declared.state.HandleSet.{HandleSet}
 use Rattle.kernel_values.specs.declared.state.Member.{Member}
 use Rattle.kernel_types.specs.Sets.{has_label, member_limit, new_member, remasked, with_mask, with_member, without_label}
 use Rattle.kernel_types.specs.Memories.{new_memory, overwritten, written}
 use Rattle.kernel_types.specs.Reach.{is_in}
-use Rattle.kernel_types.specs.Sweep.{cut_end, is_live, is_marked, pruned, pruned_port, reached}
-use Rattle.kernel_laws.proofs.Within.{Within, WithinCore, all_map_at, end_changed_within, end_within, keeps_end, keeps_port, keeps_set, memory_changed_within, set_changed_within, within_appended, within_changed, within_filtered, within_mapped}
+use Rattle.kernel_types.specs.Sweep.{cut_end, is_live, is_marked, pruned, pruned_port, reached, kept, sweep}
+use Rattle.kernel_laws.proofs.Within.{Within, WithinCore, all_map_at, end_changed_within, end_within, keeps_end, keeps_port, keeps_set, memory_changed_within, set_changed_within, within_appended, within_changed, within_filtered, within_mapped, all_find, port_in_within}
 use Rattle.kernel_values.specs.declared.call.Call.{Call}
 use Rattle.kernel_values.specs.declared.reply.Answer.{Answer}
-use Rattle.std.specs.Prelude.{Result, Ok, Err, slice_get}
 use Rattle.std.specs.Option.{option_map}
-use Rattle.kernel_values.specs.declared.errno.Errno.{Errno}
 use Rattle.kernel_values.specs.declared.entry.Event.{Event}
 use Rattle.kernel_values.specs.declared.state.Application.{Application}
 use Rattle.kernel_values.specs.declared.state.Body.{Body}
@@ -43,17 +41,10 @@ use Rattle.kernel_values.specs.declared.state.Object.{Object}
 use Rattle.kernel_values.specs.declared.state.State.{State}
 use Rattle.kernel_values.specs.declared.state.TableEntry.{TableEntry}
 use Rattle.std.proofs.lemmas.List.Sums.{length-filter, count_by-le-length}
-use Rattle.std.proofs.Common.{zero, ◌∙◌}
 use Rattle.kernel_types.specs.Bridge.{ns_connect, ns_drop, ns_push, ns_take, ns_view}
-use Rattle.kernel_types.specs.Connects.{Way, accept_client, app_place, may_serve, peer_of, pending_pair, start_flags, waiting_client, way_by_app, way_by_body, way_by_port, way_by_start_port, way_of}
 use Rattle.kernel_types.specs.Connects.Way.{to_nothing, to_port, to_start}
 use Rattle.kernel_types.specs.CoreStep.{core_idle}
-use Rattle.kernel_types.specs.Limits.{IsBodyWithin}
-use Rattle.kernel_types.specs.Objects.{added, end_changed, end_of, port_changed, has_path, map_at, port_in, published, set_if}
-use Rattle.kernel_types.specs.Ports.{server_end}
 use Rattle.kernel_types.specs.Step.{Stepped, step}
-use Rattle.kernel_types.specs.Sweep.{kept, sweep}
-use Rattle.kernel_laws.proofs.Within.{all_find, port_in_within}
 use Rattle.step_laws.specs.SmallChanges.{Carries, Mark, SmallChange, after, marked_by}
 use Rattle.step_laws.specs.SmallChanges.Carries.{no_parts, parts_held}
 use Rattle.step_laws.specs.SmallChanges.Mark.{mark_blocked, mark_decided, mark_error, mark_reported, mark_unblocked}

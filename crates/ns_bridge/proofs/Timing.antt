@@ -1,39 +1,33 @@
 -- No step of a thread or of the device brings a deadline that is not near.
-use Rattle.std.proofs.Common.{◌≡◌, ℕ, zero, suc, ◌+◌, ◌==◌, Bool, true, false, cond, not, List, [], ◌∷◌, map, Option, Some, None, refl, sym, ◌∙◌, ap, subst, arith}
+use Rattle.std.proofs.Common.{◌≡◌, ℕ, zero, suc, ◌+◌, ◌==◌, true, false, cond, not, List, [], ◌∷◌, map, Option, Some, None, refl, sym, ◌∙◌, ap, subst, arith}
 use Rattle.std.specs.Prelude.{slice_get, slice_set, Result, Ok, Err}
 use Rattle.std.specs.List.{AllByRecursion, fold}
-use Rattle.std.specs.Option.{is_some, option_map}
-use Rattle.kernel_values.specs.Words.{is_path}
+use Rattle.std.specs.Option.{option_map}
 use Rattle.kernel_values.specs.declared.call.Call.{Call}
 use Rattle.kernel_values.specs.declared.call.Call.TheVariants as call
 use Rattle.kernel_values.specs.declared.call.Timeout.{Timeout}
 use Rattle.kernel_values.specs.declared.call.Timeout.TheVariants as timeout
 use Rattle.kernel_values.specs.declared.errno.Errno.{Errno}
 use Rattle.kernel_values.specs.declared.errno.Errno.TheVariants as errno
-use Rattle.kernel_values.specs.declared.flags.ConnectFlags.{ConnectFlags}
 use Rattle.kernel_values.specs.declared.reply.Answer.{Answer}
 use Rattle.kernel_values.specs.declared.state.Activity.{Activity}
 use Rattle.kernel_values.specs.declared.state.Activity.TheVariants as activity
 use Rattle.kernel_values.specs.declared.state.Application.{Application}
 use Rattle.kernel_values.specs.declared.state.Connector.TheVariants as connector
 use Rattle.kernel_values.specs.declared.state.CoreState.{CoreState}
-use Rattle.kernel_values.specs.declared.state.TableEntry.{TableEntry}
 use Rattle.kernel_values.specs.declared.state.Thread.{Thread}
 use Rattle.kernel_values.specs.declared.state.WaitOn.{WaitOn}
-use Rattle.kernel_values.specs.declared.state.WaitOn.TheVariants as wait_on
-use Rattle.kernel_types.specs.Applications.{application_ended, ended_activity, ended_thread, exit, finish, is_elsewhere_or_over, is_started_again, started, started_as, started_thread, thread_ended, without_app}
+use Rattle.kernel_types.specs.Applications.{application_ended, ended_activity, ended_thread, is_started_again, started, started_as, started_thread, thread_ended, without_app}
 use Rattle.kernel_types.specs.Bridge.{bridging, ns_connect, ns_connect_by, ns_drop, ns_push, ns_take}
 use Rattle.kernel_types.specs.Device.{entry_dropped}
-use Rattle.kernel_types.specs.Connects.{Way, to_port, to_start, to_nothing, and_started, connect, connect_by, connected, is_asynchronous, pending_pair, started_unless_running, waiting_client, waits_for_port, way_of}
-use Rattle.kernel_types.specs.CoreStep.{act, begin_as, begin_of, core_begin, core_resume, resume_as, resume_of, resumed, swept}
-use Rattle.kernel_types.specs.Objects.{map_at, memory_of, set_if}
+use Rattle.kernel_types.specs.Connects.{Way, to_port, to_start, to_nothing, connected, pending_pair, started_unless_running, waiting_client, way_of}
+use Rattle.kernel_types.specs.CoreStep.{core_begin, core_resume}
+use Rattle.kernel_types.specs.Objects.{map_at, set_if}
 use Rattle.kernel_types.specs.Outcome.{Outcome}
 use Rattle.kernel_types.specs.Ports.{admits}
-use Rattle.kernel_types.specs.Reports.{Reported, report_of}
 use Rattle.kernel_types.specs.Sweep.{sweep}
-use Rattle.kernel_types.specs.Tables.{entry_at, free_handle, install, is_full, table_of}
-use Rattle.kernel_types.specs.Threads.{activity_changed, new_wait, running_activity, waiting_activity, waits_on, with_activity}
-use Rattle.kernel_types.specs.Waits.{can_have_events, deadline_of, end_of_wait, is_zero_timeout, wait, wait_any, wait_entry, wait_or_report}
+use Rattle.kernel_types.specs.Threads.{activity_changed, new_wait, running_activity, waiting_activity, with_activity}
+use Rattle.kernel_types.specs.Waits.{deadline_of, wait}
 use Rattle.step_laws.specs.Walks.{Awaits, ThreadChange, after_thread, timeout_of}
 use Rattle.step_laws.specs.Walks.Awaits.{for_any, for_connect, for_object}
 use Rattle.step_laws.specs.Walks.ThreadChange.{app_over, app_started, member_added, set_made, thread_over, wait_begun}

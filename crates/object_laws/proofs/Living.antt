@@ -1,20 +1,14 @@
 -- Each step ends with a sweep or leaves the core as it is, so that along every history what is there is named.
-use Rattle.std.proofs.Common.{◌≡◌, ℕ, ◌<◌, ◌++◌, Bool, true, false, cond, ◌==◌, List, [], ◌∷◌, Option, Some, None, Ok, Err, refl, subst, not}
-use Rattle.std.specs.Prelude.{slice_get}
-use Rattle.std.specs.List.{find, fold}
-use Rattle.std.specs.Option.{option_map}
+use Rattle.std.proofs.Common.{◌≡◌, ℕ, ◌<◌, ◌++◌, Bool, true, false, cond, List, Some, None, refl, subst}
 use Rattle.kernel_values.specs.SceneLaw.{SceneValue}
 use Rattle.kernel_values.specs.declared.entry.Entry.{Entry}
-use Rattle.kernel_values.specs.declared.state.ChannelEnd.{ChannelEnd}
 use Rattle.kernel_values.specs.declared.state.CoreState.{CoreState}
 use Rattle.kernel_values.specs.declared.state.State.{State}
-use Rattle.kernel_values.specs.declared.state.Thread.{Thread}
 use Rattle.kernel_types.specs.Facts.{names_at}
-use Rattle.kernel_types.specs.History.{Legal, next_state, state_after, state_or}
+use Rattle.kernel_types.specs.History.{Legal, state_after}
 use Rattle.kernel_types.specs.Names.{names_of, naming}
-use Rattle.kernel_types.specs.Objects.{end_of, is_there}
+use Rattle.kernel_types.specs.Objects.{is_there}
 use Rattle.kernel_types.specs.Opening.{opening}
-use Rattle.kernel_types.specs.Outcome.{Outcome}
 use Rattle.kernel_types.specs.Sweep.{sweep}
 use Rattle.object_laws.proofs.Sweeping.{swept_iff}
 use Rattle.step_laws.proofs.Invariants.{swept_along}

@@ -1,7 +1,7 @@
 -- What a call of a thread comes to, where what is to hold is kept by a quiet change, by the beginning of its wait and by
 -- a start of an application.
-use Rattle.std.proofs.Common.{◌≡◌, ℕ, Bool, true, false, cond, List, Option, Some, None, refl, ◌∙◌, subst}
-use Rattle.std.specs.Prelude.{slice_get, not}
+use Rattle.std.proofs.Common.{◌≡◌, ℕ, Bool, true, false, cond, List, Option, Some, None, refl, ◌∙◌, subst, length, []}
+use Rattle.std.specs.Prelude.{slice_get, not, nat_le, nat_lt}
 use Rattle.std.specs.List.{list_any}
 use Rattle.std.specs.Option.{is_some}
 use Rattle.kernel_values.specs.Words.{is_path}
@@ -20,7 +20,7 @@ use Rattle.kernel_values.specs.declared.state.WaitOn.{WaitOn}
 use Rattle.kernel_values.specs.declared.state.WaitOn.TheVariants as wait_on
 use Rattle.kernel_types.specs.Applications.{started}
 use Rattle.kernel_types.specs.Connects.{Way, to_port, to_start, to_nothing, connect, connect_by, connected, started_unless_running, and_started, way_of, waits_for_port, is_asynchronous, pending_pair, waiting_client}
-use Rattle.kernel_types.specs.Objects.{memory_of}
+use Rattle.kernel_types.specs.Objects.{memory_of, added, set_of}
 use Rattle.kernel_types.specs.Outcome.{Outcome}
 use Rattle.kernel_types.specs.Ports.{admits}
 use Rattle.kernel_types.specs.Reports.{Reported, report_of}
@@ -28,14 +28,11 @@ use Rattle.kernel_types.specs.CoreStep.{act}
 use Rattle.kernel_types.specs.Tables.{table_of, entry_at, is_full, install, free_handle}
 use Rattle.kernel_types.specs.Threads.{with_activity, waiting_activity, new_wait, waits_on}
 use Rattle.kernel_types.specs.Waits.{wait, wait_entry, wait_any, wait_or_report, is_zero_timeout, can_have_events, deadline_of}
-use Rattle.std.specs.Prelude.{nat_le, nat_lt}
-use Rattle.std.proofs.Common.{length, List, []}
 use Rattle.kernel_values.specs.declared.flags.Events.{Events}
 use Rattle.kernel_values.specs.declared.state.Body.TheVariants as body
 use Rattle.kernel_values.specs.declared.state.HandleSet.{HandleSet}
 use Rattle.kernel_values.specs.declared.state.Member.{Member}
 use Rattle.kernel_types.specs.Events.{chain_limit}
-use Rattle.kernel_types.specs.Objects.{added, set_of}
 use Rattle.kernel_types.specs.Sets.{chain_through, is_label_in, is_or_contains, member_limit, new_member, set_add, set_add_entries, set_add_member, set_add_to, set_create}
 use Rattle.step_laws.specs.Walks.{is_ending}
 use Rattle.step_laws.proofs.Calls.{ReportGoes, accept_goes, close_goes, cookie_goes, del_goes, dup_goes, get_goes, memref_goes, mod_goes, mread_goes, mwrite_goes, port_goes, put_goes, read_goes, report_goes, send_goes}

@@ -1,5 +1,5 @@
 -- Every step keeps chains of sets short.
-use Rattle.std.proofs.Common.{◌≡◌, ◌<◌, ℕ, ◌+◌, ◌++◌, Bool, true, false, List, [], ◌∷◌, map, Option, Some, None, refl, sym, ap, subst, arith, inl, inr}
+use Rattle.std.proofs.Common.{◌≡◌, ℕ, ◌+◌, Bool, true, false, List, [], Option, Some, None, refl, sym, ap, subst, arith}
 use Rattle.std.specs.List.{filter}
 use Rattle.std.specs.Option.{is_some}
 use Rattle.kernel_values.specs.declared.call.Call.{Call}
@@ -14,7 +14,6 @@ use Rattle.kernel_values.specs.declared.state.CoreState.{CoreState}
 use Rattle.kernel_values.specs.declared.state.EndState.TheVariants as end_state
 use Rattle.kernel_values.specs.declared.state.HandleSet.{HandleSet}
 use Rattle.kernel_values.specs.declared.state.Member.{Member}
-use Rattle.kernel_values.specs.declared.state.Object.{Object}
 use Rattle.kernel_values.specs.declared.state.Port.{Port}
 use Rattle.kernel_values.specs.declared.state.State.{State}
 use Rattle.kernel_types.specs.Applications.{application_ended, started}
@@ -25,10 +24,9 @@ use Rattle.kernel_types.specs.Events.{events_of, is_ready_member}
 use Rattle.kernel_types.specs.Memories.{new_memory, written}
 use Rattle.kernel_types.specs.Messages.{free_id, with_message, with_opened, without_opened}
 use Rattle.kernel_types.specs.Tables.{install}
-use Rattle.kernel_types.specs.Objects.{added, changed, end_changed, end_of, new_end, on_body, on_end, on_memory, on_port, on_set, port_changed, set_changed, set_of, with_objects}
+use Rattle.kernel_types.specs.Objects.{added, changed, end_changed, end_of, new_end, on_body, on_end, on_memory, on_port, on_set, port_changed, set_changed, with_objects}
 use Rattle.kernel_types.specs.Ports.{new_port, server_end}
 use Rattle.kernel_types.specs.Reach.{is_in}
-use Rattle.kernel_types.specs.Reports.{with_last}
 use Rattle.kernel_types.specs.Sets.{new_member, remasked, with_member, without_label}
 use Rattle.kernel_types.specs.Step.{Stepped, step}
 use Rattle.kernel_types.specs.Sweep.{cut_end, kept, pruned, pruned_port, reached, sweep}
@@ -39,7 +37,7 @@ use Rattle.set_laws.proofs.Lessening.{found_member, less_remasked, less_without,
 use Rattle.set_laws.proofs.Shrinking.{Deep, Shrinking, Shrinks, calm_end, deep_by, deep_new_set, quiet_memory, quiet_port, short_by, shrinking_both, shrinking_same, shrinks_added, shrinks_published, shrunk_changed, shrunk_filtered, shrunk_mapped}
 use Rattle.step_laws.specs.SmallChanges.{SmallChange, after, marked_by}
 use Rattle.step_laws.specs.SmallChanges.SmallChange.{client_made, cookie_changed, end_accepted, end_marked, entry_installed, entry_removed, last_changed, member_put_last, member_remasked, member_removed, memory_made, memory_written, message_opened, message_retired, message_sent, pair_made, parts_installed, port_made}
-use Rattle.step_laws.specs.Walks.{CoreChange, IsWalk, ThreadChange, after_core, after_thread, asked_by}
+use Rattle.step_laws.specs.Walks.{CoreChange, IsWalk, ThreadChange, after_core, after_thread}
 use Rattle.step_laws.specs.Walks.CoreChange.{app_served, by_call, by_small, end_bridged, end_unbridged, objects_swept, time_passed, wait_over}
 use Rattle.step_laws.specs.Walks.ThreadChange.{app_over, app_started, member_added, set_made, thread_over, wait_begun}
 use Rattle.step_laws.proofs.Rows.{row_keeps}

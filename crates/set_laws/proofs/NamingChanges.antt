@@ -1,74 +1,53 @@
 -- Every small change leaves what is named with numbers that were given, so every step does.
 use Rattle.kernel_laws.proofs.Starts.{same_ended, same_started}
 use Rattle.kernel_laws.proofs.Within.{all_map_at}
-use Rattle.kernel_types.specs.Applications.{after_finish, application_ended, ended_activity, ended_app, ended_thread, exit, finish, is_elsewhere_or_over, is_started_again, started, started_app, started_as, started_thread, thread_ended, without_app}
+use Rattle.kernel_types.specs.Applications.{application_ended, ended_activity, ended_app, ended_thread, is_started_again, started, started_app, started_as, started_thread, without_app}
 use Rattle.kernel_types.specs.Bridge.{bridging, unbridged}
-use Rattle.kernel_types.specs.Connects.Way.{to_nothing, to_port, to_start}
-use Rattle.kernel_types.specs.Connects.{Way, accept, accept_client, accept_entry, accept_pending, accept_port, accept_server, accepted_end, and_started, connect, connect_by, connect_decision, connected, decided_on, holds_end, is_asynchronous, peer_of, peer_uuid, pending_pair, started_unless_running, unready, waiting_client, waits_for_port, way_of}
-use Rattle.kernel_types.specs.CoreStep.{act, begin_as, begin_of, cancelled_activity, core_begin, core_idle, core_resume, resume_as, resume_of, resumed, swept}
-use Rattle.kernel_types.specs.Events.{chain_limit, events_of, is_disconnected, is_filled, is_ready_member, masked_events}
-use Rattle.kernel_types.specs.Handles.{close, close_entry, dup, dup_entry, set_cookie, set_cookie_entry}
-use Rattle.kernel_types.specs.Memories.{is_lawful_size, is_range, is_writable, mem_create, mem_read, mem_read_entry, mem_read_of, mem_write, mem_write_entry, mem_write_of, new_memory, written}
-use Rattle.kernel_types.specs.Messages.{all_handles, all_installed, blocked_end, deliver, entry_object, free_id, get, get_entry, get_from, get_message, has_unsendable_part, is_full_end, is_in_table, is_opened_as, is_unconnected, opened_as, part_limit, part_objects, peer_end, peer_unblocked, put, put_entry, put_from, put_message, read, read_entry, read_from, read_opened, send, send_entry, send_from, unblocked_end, with_message, with_opened, without_opened}
+use Rattle.kernel_types.specs.Connects.{accept_client, accepted_end, connected, peer_of, pending_pair, waiting_client}
+use Rattle.kernel_types.specs.CoreStep.{cancelled_activity, core_idle, resumed, swept}
+use Rattle.kernel_types.specs.Events.{events_of, is_filled, is_ready_member}
+use Rattle.kernel_types.specs.Memories.{new_memory, written}
+use Rattle.kernel_types.specs.Messages.{all_installed, entry_object, free_id, get, is_in_table, is_opened_as, opened_as, part_objects, with_message, with_opened, without_opened}
 use Rattle.kernel_types.specs.Names.{activity_names, waited_names}
-use Rattle.kernel_types.specs.Objects.{added, end_changed, end_of, map_at, memory_changed, memory_of, new_end, on_body, on_end, on_memory, on_port, on_set, port_changed, port_of, published, set_changed, set_of, with_objects}
-use Rattle.kernel_types.specs.Outcome.{Outcome, gives, gives_with, opened_seq, refuses, retired_seq, sent_seq}
-use Rattle.kernel_types.specs.Ports.{admits, admits_client, admitted, connecting_end, decided, decided_end, denied_end, is_lawful_port, new_port, new_server, port_create, publish, publish_to, server_end, server_of, waits_for}
+use Rattle.kernel_types.specs.Objects.{added, end_changed, end_of, new_end, on_body, on_end, on_memory, on_port, on_set, port_changed, port_of, published, set_changed, set_of, with_objects}
+use Rattle.kernel_types.specs.Outcome.{gives}
+use Rattle.kernel_types.specs.Ports.{admits_client, admitted, connecting_end, decided, decided_end, denied_end, new_port, new_server, publish_to, server_end, server_of, waits_for}
 use Rattle.kernel_types.specs.Reach.{is_in}
-use Rattle.kernel_types.specs.Reports.{Reported, cleared, entry_report, event_reply, has_events, in_turn, last_of, member_report, plain_report, report_of, reported_end, set_or_plain_report, with_last, with_last_reported}
-use Rattle.kernel_types.specs.Sets.{chain_through, has_label, is_label_in, is_or_contains, labelled, labelled_entry, member_limit, new_member, remasked, set_add, set_add_entries, set_add_member, set_add_to, set_create, set_del, set_mod, with_mask, with_member, without_label}
+use Rattle.kernel_types.specs.Reports.{with_last, with_last_reported}
+use Rattle.kernel_types.specs.Sets.{has_label, new_member, remasked, with_mask, with_member, without_label}
 use Rattle.kernel_types.specs.Step.{step}
 use Rattle.kernel_types.specs.Sweep.{cut_end, has_marked_peer, kept, pruned, pruned_port, reached, sweep}
-use Rattle.kernel_types.specs.Tables.{entry_at, free_handle, has_room, install, installed, is_full, remove_entry, table_of, with_cookie, with_table, without}
-use Rattle.kernel_types.specs.Threads.{activity_changed, new_wait, running_activity, waiting_activity, waits_on, with_activity}
-use Rattle.kernel_types.specs.Waits.{begin_wait, can_have_events, deadline_of, end_by_kind, end_by_report, end_of_wait, is_due, is_zero_timeout, wait, wait_any, wait_entry, wait_or_report}
-use Rattle.kernel_values.specs.Words.{is_path}
-use Rattle.kernel_values.specs.declared.call.Call.TheVariants as call
+use Rattle.kernel_types.specs.Tables.{entry_at, installed, remove_entry, table_of, with_cookie, without}
+use Rattle.kernel_types.specs.Threads.{activity_changed, new_wait, running_activity, waiting_activity}
+use Rattle.kernel_types.specs.Waits.{deadline_of, wait}
 use Rattle.kernel_values.specs.declared.call.Call.{Call}
-use Rattle.kernel_values.specs.declared.call.Timeout.{Timeout}
-use Rattle.kernel_values.specs.declared.entry.Event.{Event}
 use Rattle.kernel_values.specs.declared.entry.Seqs.{Seqs}
-use Rattle.kernel_values.specs.declared.errno.Errno.TheVariants as errno
-use Rattle.kernel_values.specs.declared.errno.Errno.{Errno}
-use Rattle.kernel_values.specs.declared.flags.ConnectFlags.{ConnectFlags}
-use Rattle.kernel_values.specs.declared.flags.Events.{Events}
-use Rattle.kernel_values.specs.declared.flags.MemFlags.{MemFlags}
-use Rattle.kernel_values.specs.declared.flags.PortFlags.{PortFlags}
 use Rattle.kernel_values.specs.declared.reply.Answer.{Answer}
-use Rattle.kernel_values.specs.declared.reply.Reply.TheVariants as reply
-use Rattle.kernel_values.specs.declared.reply.Reply.{Reply}
 use Rattle.kernel_values.specs.declared.state.Activity.TheVariants as activity
 use Rattle.kernel_values.specs.declared.state.Activity.{Activity}
 use Rattle.kernel_values.specs.declared.state.Application.{Application}
 use Rattle.kernel_values.specs.declared.state.Body.TheVariants as body
 use Rattle.kernel_values.specs.declared.state.Body.{Body}
 use Rattle.kernel_values.specs.declared.state.ChannelEnd.{ChannelEnd}
-use Rattle.kernel_values.specs.declared.state.Connector.TheVariants as connector
 use Rattle.kernel_values.specs.declared.state.Connector.{Connector}
 use Rattle.kernel_values.specs.declared.state.CoreState.{CoreState}
 use Rattle.kernel_values.specs.declared.state.EndState.TheVariants as end_state
 use Rattle.kernel_values.specs.declared.state.HandleSet.{HandleSet}
 use Rattle.kernel_values.specs.declared.state.Member.{Member}
-use Rattle.kernel_values.specs.declared.state.MemoryRef.{MemoryRef}
 use Rattle.kernel_values.specs.declared.state.Message.{Message}
 use Rattle.kernel_values.specs.declared.state.Object.{Object}
 use Rattle.kernel_values.specs.declared.state.Port.{Port}
-use Rattle.kernel_values.specs.declared.state.State.{State}
 use Rattle.kernel_values.specs.declared.state.TableEntry.{TableEntry}
 use Rattle.kernel_values.specs.declared.state.Thread.{Thread}
 use Rattle.kernel_values.specs.declared.state.Wait.{Wait}
-use Rattle.kernel_values.specs.declared.state.WaitOn.TheVariants as wait_on
 use Rattle.kernel_values.specs.declared.state.WaitOn.{WaitOn}
 use Rattle.set_laws.proofs.Counting.{among_first, among_later}
 use Rattle.set_laws.proofs.Lists.{IfThere, all_appended, all_filtered, all_mapped, all_taken, all_weaker, found_there}
 use Rattle.set_laws.proofs.Naming.{Given, Below, BodyBelow, MembersBelow, MessagesBelow, Named, NamesBelow, TableBelow, acted, added_named, changed_all, changed_one, end_named, entry_named, fewer, installed_below, on_end_below, on_memory_below, on_port_below, on_set_below, port_named, put_in, put_in, raised, set_named, tabled}
-use Rattle.std.proofs.Common.{Bool, List, None, Option, Some, [], arith, cond, drop, false, length, map, min, not, refl, subst, suc, sym, take, tests, true, ℕ, ◌&&◌, ◌++◌, ◌+◌, ◌<◌, ◌==◌, ◌||◌, ◌∷◌, ◌≡◌}
-use Rattle.std.specs.List.{AllByRecursion, filter, find, list_all, list_any, position_or_len}
-use Rattle.std.specs.Option.{is_some, option_map}
-use Rattle.std.specs.Prelude.{if◌then◌else◌, nat_le, nat_lt, slice_get}
-use Rattle.kernel_values.specs.declared.entry.Seqs.{Seqs}
-use Rattle.kernel_types.specs.Connects.{accept_client, accepted_end, peer_of}
-use Rattle.kernel_types.specs.Tables.{with_cookie}
+use Rattle.std.proofs.Common.{Bool, List, None, Option, Some, [], arith, cond, false, length, map, not, refl, subst, suc, sym, take, tests, true, ℕ, ◌&&◌, ◌++◌, ◌+◌, ◌<◌, ◌==◌, ◌||◌, ◌∷◌, ◌≡◌}
+use Rattle.std.specs.List.{AllByRecursion, filter, find, list_all, position_or_len}
+use Rattle.std.specs.Option.{is_some}
+use Rattle.std.specs.Prelude.{slice_get}
 use Rattle.step_laws.specs.SmallChanges.{Carries, Mark, Nameable, SmallChange, after, marked_by}
 use Rattle.step_laws.specs.SmallChanges.Carries.{no_parts, parts_held}
 use Rattle.step_laws.specs.SmallChanges.Mark.{mark_blocked, mark_decided, mark_error, mark_reported, mark_unblocked}

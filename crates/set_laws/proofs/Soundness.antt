@@ -1,5 +1,5 @@
 -- Every step keeps names given and states sound, so every history does.
-use Rattle.std.proofs.Common.{◌≡◌, ◌<◌, ℕ, ◌+◌, ◌++◌, ◌==◌, true, false, cond, List, [], ◌∷◌, map, Option, Some, None, refl, subst, arith}
+use Rattle.std.proofs.Common.{◌≡◌, ◌<◌, ℕ, ◌+◌, ◌++◌, ◌==◌, true, false, cond, List, [], ◌∷◌, map, Option, Some, None, refl, arith}
 use Rattle.std.specs.List.{AllByRecursion, enumerate_from, flat_map}
 use Rattle.std.proofs.lemmas.List.Elements.{All-from_recursion, recursion_from_All}
 use Rattle.kernel_values.specs.SceneLaw.{SceneValue}

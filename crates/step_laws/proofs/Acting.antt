@@ -1,6 +1,6 @@
 -- Every call of a thread: a row of small changes, and then what it does to threads and applications.
-use Rattle.std.proofs.Common.{◌≡◌, ℕ, Bool, true, false, cond, not, List, [], Option, Some, None, refl, ap, ◌∙◌}
-use Rattle.std.specs.Prelude.{if◌then◌else◌, slice_get}
+use Rattle.std.proofs.Common.{◌≡◌, ℕ, Bool, true, false, cond, not, List, [], Option, Some, None, refl, ap, ◌∙◌, length}
+use Rattle.std.specs.Prelude.{if◌then◌else◌, slice_get, nat_lt, nat_le}
 use Rattle.std.specs.List.{list_all, list_any}
 use Rattle.std.specs.Option.{is_some}
 use Rattle.kernel_values.specs.declared.call.Timeout.{Timeout}
@@ -8,7 +8,7 @@ use Rattle.kernel_values.specs.declared.errno.Errno.{Errno}
 use Rattle.kernel_values.specs.declared.state.TableEntry.{TableEntry}
 use Rattle.kernel_values.specs.declared.state.WaitOn.{WaitOn}
 use Rattle.kernel_values.specs.declared.state.CoreState.{CoreState}
-use Rattle.kernel_types.specs.Objects.{map_at, memory_of}
+use Rattle.kernel_types.specs.Objects.{map_at, memory_of, added, set_changed, set_of}
 use Rattle.kernel_types.specs.Tables.{table_of, entry_at, free_handle, is_full, install}
 use Rattle.kernel_types.specs.Reports.{Reported, report_of, event_reply}
 use Rattle.kernel_types.specs.Waits.{wait, wait_any, wait_entry, wait_or_report, begin_wait, can_have_events, is_zero_timeout, deadline_of}
@@ -31,13 +31,10 @@ use Rattle.kernel_values.specs.declared.call.Call.TheVariants as call
 use Rattle.kernel_values.specs.declared.reply.Answer.{Answer}
 use Rattle.kernel_values.specs.declared.reply.Answer.TheVariants as answer
 use Rattle.kernel_types.specs.Sets.{set_create, set_add, set_add_entries, set_add_to, set_add_member, is_or_contains, is_label_in, chain_through, member_limit, new_member, with_member}
-use Rattle.kernel_types.specs.Objects.{added, set_changed, set_of, memory_of}
 use Rattle.kernel_types.specs.Events.{chain_limit}
 use Rattle.kernel_values.specs.declared.flags.Events.{Events}
 use Rattle.kernel_values.specs.declared.state.HandleSet.{HandleSet}
 use Rattle.kernel_values.specs.declared.state.Body.TheVariants as body
-use Rattle.std.specs.Prelude.{nat_lt, nat_le}
-use Rattle.std.proofs.Common.{length}
 use Rattle.step_laws.specs.SmallChanges.{IsGiven, is_to_port}
 use Rattle.step_laws.specs.SmallChanges.Nameable.{by_number}
 use Rattle.step_laws.specs.SmallChanges.SmallChange.{entry_installed, client_made, pair_made}

@@ -1,6 +1,6 @@
 -- What the bridge's calls leave of the core: a message that goes or comes leaves all that changes of objects leave, and a drop all of it
 -- but the ends that the bridge names.
-use Rattle.std.proofs.Common.{◌≡◌, ◌∙◌, ℕ, Bool, true, false, cond, List, [], ◌∷◌, length, Option, Some, None, refl}
+use Rattle.std.proofs.Common.{◌∙◌, ℕ, Bool, true, false, cond, List, [], ◌∷◌, length, Option, Some, None, refl}
 use Rattle.std.specs.List.{find, fold}
 use Rattle.kernel_values.specs.declared.errno.Errno.TheVariants as errno
 use Rattle.kernel_values.specs.declared.reply.Reply.TheVariants as reply

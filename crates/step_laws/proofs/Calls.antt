@@ -14,7 +14,7 @@ use Rattle.kernel_values.specs.declared.state.Port.{Port}
 use Rattle.kernel_values.specs.declared.state.TableEntry.{TableEntry}
 use Rattle.kernel_values.specs.declared.state.WaitOn.{WaitOn}
 use Rattle.kernel_values.specs.declared.state.CoreState.{CoreState}
-use Rattle.kernel_types.specs.Objects.{set_changed, memory_of, set_of, end_of, end_changed, published, port_of}
+use Rattle.kernel_types.specs.Objects.{set_changed, memory_of, set_of, end_of, end_changed, published, port_of, port_changed}
 use Rattle.kernel_types.specs.Tables.{table_of, entry_at, is_full, install, remove_entry, has_room}
 use Rattle.kernel_types.specs.Handles.{set_cookie, set_cookie_entry, close, close_entry, dup, dup_entry}
 use Rattle.kernel_types.specs.Sets.{set_del, set_mod, labelled, labelled_entry, without_label, remasked, is_label_in}
@@ -22,19 +22,18 @@ use Rattle.kernel_types.specs.Memories.{mem_create, mem_read, mem_read_entry, me
 use Rattle.kernel_types.specs.Events.{events_of, is_ready_member, masked_events, is_filled, is_disconnected}
 use Rattle.kernel_types.specs.Reports.{with_last_reported, Reported, report_of, set_or_plain_report, plain_report, member_report, entry_report, cleared, with_last, last_of, in_turn, has_events}
 use Rattle.kernel_types.specs.Waits.{wait, end_of_wait, end_by_kind, end_by_report, is_due}
-use Rattle.kernel_types.specs.Outcome.{Outcome, refuses, gives, sent_seq, gives_with}
+use Rattle.kernel_types.specs.Outcome.{Outcome, refuses, gives, sent_seq, gives_with, end_seq}
 use Rattle.kernel_values.specs.declared.state.Message.{Message}
 use Rattle.kernel_types.specs.Messages.{part_limit, is_unconnected, is_in_table, has_unsendable_part, send, send_entry, send_from, deliver, peer_end, part_objects, with_message, blocked_end, get, get_entry, get_from, get_message, is_opened_as, read, read_entry, read_from, read_opened, put, put_entry, put_from, put_message, peer_unblocked, is_full_end}
 use Rattle.kernel_values.specs.declared.flags.PortFlags.{PortFlags}
 use Rattle.kernel_values.specs.declared.state.Wait.{Wait}
 use Rattle.kernel_types.specs.Ports.{is_lawful_port, port_create}
-use Rattle.kernel_types.specs.Connects.{connect_decision, decided_on, holds_end, accept, accept_entry, accept_port, accept_pending, accept_server, accept_client, peer_of}
+use Rattle.kernel_types.specs.Connects.{connect_decision, decided_on, holds_end, accept, accept_entry, accept_port, accept_pending, accept_server, accept_client, peer_of, accepted_end}
 use Rattle.kernel_values.specs.declared.entry.EndSeq.{EndSeq}
 use Rattle.kernel_values.specs.declared.entry.Seqs.{Seqs}
 use Rattle.kernel_values.specs.declared.errno.Errno.TheVariants as errno
 use Rattle.kernel_values.specs.declared.state.WaitOn.TheVariants as wait_on
 use Rattle.kernel_values.specs.declared.reply.Reply.TheVariants as reply
-use Rattle.kernel_types.specs.Outcome.{end_seq}
 use Rattle.step_laws.specs.SmallChanges.{Carries, MayDeliver, Move, SmallChange, after, after_accept, moves}
 use Rattle.step_laws.specs.SmallChanges.Carries.{parts_held}
 use Rattle.step_laws.specs.SmallChanges.Mark.{mark_blocked, mark_unblocked, mark_decided, mark_reported}
@@ -46,9 +45,6 @@ use Rattle.step_laws.proofs.Outcomes.{Comes, lists}
 use Rattle.step_laws.proofs.Outcomes.Said.{says_memory, says_message, says_no_list}
 use Rattle.step_laws.proofs.Rows.{one_more, one_told}
 use Rattle.step_laws.proofs.There.{new_given, port_given}
-use Rattle.kernel_types.specs.Connects.{accepted_end}
-use Rattle.kernel_types.specs.Objects.{port_changed}
-use Rattle.kernel_types.specs.Messages.{blocked_end}
 
 pub not_false : (b : Bool) → not b ≡ false → b ≡ true
 not_false true is = refl

@@ -3,7 +3,6 @@ use Rattle.std.proofs.Common.{◌≡◌, ◌∙◌, ℕ, Bool, true, false, cond
 use Rattle.std.specs.Prelude.{slice_get}
 use Rattle.kernel_values.specs.declared.call.Call.{Call}
 use Rattle.kernel_values.specs.declared.reply.Answer.{Answer}
-use Rattle.kernel_values.specs.declared.state.Application.{Application}
 use Rattle.kernel_values.specs.declared.state.CoreState.{CoreState}
 use Rattle.kernel_values.specs.declared.state.Wait.{Wait}
 use Rattle.kernel_types.specs.Applications.{application_ended, is_started_again, started, started_as, without_app}
@@ -12,7 +11,6 @@ use Rattle.kernel_types.specs.Outcome.{Outcome}
 use Rattle.kernel_types.specs.Sweep.{sweep}
 use Rattle.kernel_types.specs.Threads.{running_activity, with_activity}
 use Rattle.kernel_types.specs.Waits.{end_of_wait}
-use Rattle.step_laws.specs.SmallChanges.{SmallChange, after}
 use Rattle.step_laws.specs.Walks.{ThreadChange, after_thread}
 use Rattle.step_laws.specs.Walks.ThreadChange.{app_over, app_started, member_added, set_made, thread_over, wait_begun}
 use Rattle.step_laws.proofs.Calls.{GoesIf, end_of_wait_goes}
