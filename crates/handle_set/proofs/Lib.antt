@@ -8,3 +8,7 @@ pub mod Picking
 pub mod Changing
 pub mod Telling
 pub mod Opening
+pub mod Standing
+pub mod Circles
+pub mod Depths
+pub mod Pushing

@@ -2,6 +2,7 @@
 //! are ready.
 #![tactic(auto)]
 
+pub mod adding;
 pub mod changes;
 pub mod members;
 pub mod ready_list;
@@ -10,6 +11,7 @@ pub mod sets;
 pub mod settle;
 pub mod steps;
 
+pub use adding::{Member, SetRefused};
 pub use ready_list::{Picked, ReadyList};
 pub use records::{Records, Told};
 pub use sets::Sets;

@@ -66,6 +66,18 @@ pub fn has_object(list: &ReadyList, object: u64) -> bool
     false
 }
 
+/// Whether there is a member under this label.
+pub fn has_label(list: &ReadyList, label: Handle) -> bool
+    ensures { result ≡ is_label_in list.now label }
+{
+    for at in 0..list.len() {
+        if member(list, at).label == label {
+            return true;
+        }
+    }
+    false
+}
+
 /// The place of the member under this label; past the end where there is none.
 pub fn place_of(list: &ReadyList, label: Handle) -> usize
     ensures { result ≡ position_or_len (has_label label) list.now }

@@ -1,9 +1,11 @@
 //! All open sets. Each knows of its members the events last told, and reports the first that is ready.
 
-ghost use Rattle.std.specs.Prelude.{◌≡◌, ◌<◌, ◌≤◌, ◌+◌, ◌-◌, ◌^◌, ◌++◌, ◌∷◌, [], true, false, find, map, Some, None, IsOk, OnOk, OnErr, vec_len, vec_capacity};
+ghost use Rattle.std.specs.Prelude.{◌≡◌, ◌<◌, ◌≤◌, ◌+◌, ◌-◌, ◌^◌, ◌++◌, ◌∷◌, [], true, false, find, map, Some, None, IsOk, IfErr, OnOk, OnErr, vec_len, vec_capacity};
 ghost use Rattle.std.specs.List.{filter};
+ghost use Rattle.handle_set.specs.Adding.{IsCause, add_refusal, with_added};
 ghost use Rattle.handle_set.specs.Sets.{AreOnce, CanHave, IsSettled, IsUpToDate, cleared, empty_set, first_object, first_ready, has_id, has_labelled, id_of, is_member, is_open, is_other_set, labelled, members_changed, of_set, ready_in, remasked_at, reported, set_told, without_label};
 
+use crate::adding::{Member, SetRefused, add_in, refusal};
 use crate::changes::{del_in, drop_first_in, first_in, modify_in, pick_in, tell_in};
 use crate::ready_list::{Picked, ReadyList};
 use crate::settle::{OpenSet, place_of, ready_in};
@@ -114,6 +116,26 @@ impl Sets {
         ensures spare { self.new.spare ≡ self.old.spare }
     {
         tell_in(&mut self.sets, object.serial, events);
+    }
+
+    /// Adds a member, which goes last, with the events that its object has. It is refused by the first cause of
+    /// `SetRefused` that holds, or for want of memory.
+    pub fn add(&mut self, set: ObjKey, member: Member, events: Events) -> Result<(), SetRefused>
+        requires is_set { is_open self.old.sets set.serial ≡ true }
+        requires events { CanHave self.old.sets member.object.serial events }
+        ensures cause { IfErr result (IsCause (add_refusal self.old.sets set.serial member)) }
+        ensures none { OnOk result (add_refusal self.old.sets set.serial member ≡ None) }
+        ensures added { OnOk result (IsUpToDate (with_added set.serial member events self.old.sets) self.new.sets) }
+        ensures spare { self.new.spare ≡ self.old.spare }
+        ensures same { OnErr result (self.new ≡ self.old) }
+    {
+        match refusal(&self.sets, set.serial, member) {
+            Some(refused) => Err(refused),
+            None => {
+                add_in(&mut self.sets, set.serial, member, events);
+                Ok(())
+            }
+        }
     }
 
     /// Takes the member under a label out of a set, and answers its object. None exactly where the set has no
