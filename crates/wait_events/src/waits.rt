@@ -269,11 +269,12 @@ impl Waits {
     {
         let nobody: Option<Waiting> = None;
         let waits = Vec::from_elem(alloc, nobody, actors as usize)?;
+        let least = least_of(&waits);
         Ok(Waits {
             clock: 0,
             actors: waits,
             tables: new_tables(alloc)?,
-            least: None,
+            least,
         })
     }
 
