@@ -1,0 +1,14 @@
+pub mod Places
+pub mod Masks
+pub mod Orders
+pub mod ReadyLists
+pub mod Turns
+pub mod Levels
+pub mod Picking
+pub mod Changing
+pub mod Telling
+pub mod Opening
+pub mod Standing
+pub mod Circles
+pub mod Depths
+pub mod Pushing

@@ -1,0 +1,10 @@
+use Rattle.std.proofs.Common.{◌≡◌, ◌∙◌, sym, ap}
+use Rattle.handle_set.specs.declared.settle.OpenSet.{OpenSet}
+use Rattle.handle_set.specs.Sets.{has_ready}
+use Rattle.handle_set.proofs.Places.{got}
+use Rattle.handle_set.proofs.settle.is_ready_at.Goals as goal
+
+pub returns : goal.returns
+returns c =
+    let here = got c.args.sets.now c.args.place c.index-sets-place.result c.requires c.index-sets-place.is in
+    rw here (c.is_ready.ensures ∙ ap (λ (x : OpenSet). has_ready x) (sym c.index-sets-place.is))

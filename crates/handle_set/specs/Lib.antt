@@ -1,0 +1,7 @@
+pub mod Adding
+pub mod Chains
+pub mod Members
+pub mod Rows
+pub mod Sets
+pub mod Spares
+pub mod Within

@@ -1,0 +1,3 @@
+pub mod Ofsets
+pub mod Reporting
+pub mod Moving
