@@ -1,5 +1,5 @@
 // A place that bytes are read from, and the loop that reads all of them.
-ghost use Rattle.std.specs.Prelude.{◌≡◌, ◌≢◌, ℕ, ◌+◌, ◌<◌, ◌≤◌, max, List, length, Option, IfOk, IsErrOf};
+ghost use Rattle.std.specs.Prelude.{◌≡◌, ◌≢◌, ℕ, ◌+◌, ◌<◌, ◌≤◌, max, List, length, Option, IfOk, IfSome, IsErrOf};
 ghost use Rattle.std.specs.Io.{ReadsAtMost};
 ghost use Rattle.std.specs.Io.KnownBytes.{ReadConsumes};
 ghost use Rattle.std.specs.Prelude.{vec_len};
@@ -79,6 +79,7 @@ fn zeros(alloc: Global, count: usize) -> Result<Vec<u8>, AllocError>
 
 /// Reads all that is left of a source, at most `INPUT_LIMIT` bytes of it. What is kept grows
 /// with what was read.
+#[tactic(auto, using(crate::proofs::Known::within_left))]
 pub fn read_all<S: Source>(alloc: Global, source: &mut S) -> Result<Vec<u8>, ReadRefused>
     ensures whole { IfOk result (λ bytes. ReadsWhole INPUT_LIMIT (S.left source.old) (S.left source.new) bytes.items) }
     ensures failed { IsErrOf result ReadRefused.Failed → Rose (S.faults source.old) (S.faults source.new)
@@ -92,6 +93,8 @@ pub fn read_all<S: Source>(alloc: Global, source: &mut S) -> Result<Vec<u8>, Rea
     // Each read but the last takes a byte at least.
     ensures turns { S.calls source.new ≤ S.calls source.old + INPUT_LIMIT + 1 }
     ensures turns_of { IfOk result (λ bytes. S.calls source.new ≤ S.calls source.old + length bytes.items + 1) }
+
+    ensures turns_left { IfSome (S.left source.old) (λ input. S.calls source.new ≤ S.calls source.old + length input + 1) }
 
     // No read asks for more than a piece.
     ensures asked { S.asked source.new ≤ max (S.asked source.old) READ_SIZE }
