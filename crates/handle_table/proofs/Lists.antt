@@ -2,11 +2,27 @@
 use Rattle.std.proofs.Common.{◌≡◌, ◌≢◌, ℕ, zero, suc, ◌+◌, ◌<◌, ◌≤◌, ◌||◌, Bool, true, false, not, cond, List, [], ◌∷◌, length, find, filter_map, slice_get, Option, Some, None, is_some, refl, sym, ap, ◌∙◌, inl, inr, subst, arith}
 use Rattle.std.proofs.lemmas.Bool.{cases_eq}
 use Rattle.std.proofs.lemmas.Bool.Decides.{nat_tests}
+use Rattle.std.specs.Prelude.{◌==◌, nat_lt}
 use Rattle.std.specs.List.{range_with_len, cons_option, list_any, position_or_len}
 use Rattle.std.specs.Option.{option_map}
 use Rattle.kernel_values.specs.declared.state.TableEntry.{TableEntry}
 use Rattle.object_store.proofs.Found.{found_same, find_found}
-use Rattle.handle_table.specs.Tables.{has_handle, is_above, with_entry, without, with_cookie, cookie_set, set_if, is_free, IsTableFrom}
+use Rattle.kernel_types.specs.Objects.{set_if}
+use Rattle.handle_table.specs.Tables.{with_entry, without, with_cookie, is_free, IsTableFrom}
+
+-- the tests and changes of an entry that the definitions of tables write out
+
+abbrev pub has_handle : ℕ → TableEntry → Bool
+has_handle handle entry = entry.handle == handle
+
+abbrev pub is_above : TableEntry → TableEntry → Bool
+is_above entry other = nat_lt entry.handle other.handle
+
+abbrev pub cookie_set : ℕ → TableEntry → TableEntry
+cookie_set cookie entry = record entry { cookie = cookie }
+
+abbrev pub new_entry : ℕ → ℕ → TableEntry
+new_entry handle object = record { handle = handle; object = object; cookie = 0 }
 
 -- whether some entry has a number is whether one is found
 any_is_some : {X : Type 0} (p : X → Bool) (xs : List X) → list_any p xs ≡ is_some (find p xs)

@@ -10,9 +10,9 @@ use Rattle.std.proofs.lemmas.Nat.Bits.{bit_at-trailing_ones, bit_at_ones, bit_at
 use Rattle.kernel_values.specs.declared.state.TableEntry.{TableEntry}
 use Rattle.object_store.proofs.Found.{find_found, length_changed, weight}
 use Rattle.handle_table.specs.declared.table.Slot.{Slot}
-use Rattle.handle_table.specs.Tables.{entry_at, is_free, free_handle, with_entry, without, with_cookie, cookie_set, is_after, handle_of, next_handle, IsTableFrom}
+use Rattle.handle_table.specs.Tables.{entry_at, is_free, free_handle, with_entry, without, with_cookie, is_after, handle_of, next_handle, IsTableFrom}
 use Rattle.handle_table.specs.Places.{slot_entry, place_entry, entries, IsTable, IsAfter, IsNextBit, HasNoNextBit}
-use Rattle.handle_table.proofs.Lists.{find_first, free_found, found_rises, cookie_absent, with_found, without_found, cookie_found, find_next, find_none, found_length, found_all}
+use Rattle.handle_table.proofs.Lists.{cookie_set, find_first, free_found, found_rises, cookie_absent, with_found, without_found, cookie_found, find_next, find_none, found_length, found_all}
 use Rattle.handle_table.proofs.Bits.{place_keyed, place_past, place_set, place_clear, come_here, come_other, gone_here, gone_other, write_here, write_other}
 
 module _ (used : ℕ) (places : List Slot) (len : ℕ) (table : IsTable used places len) where

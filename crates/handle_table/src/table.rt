@@ -135,6 +135,7 @@ impl Table {
     }
 
     /// Gives the object of the number one more number, the least free one, with cookie 0.
+    #[tactic(auto, unfolding(kernel_types::specs::Tables::is_full))]
     pub fn dup(&mut self, handle: Handle) -> Result<Handle, DupRefused>
         ensures refusal { result_err result ≡ dup_refusal self.old (entry_at self.old handle) }
         ensures number { IfOk result (λ new. new ≡ free_handle self.old) }

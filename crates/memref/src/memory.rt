@@ -1,7 +1,8 @@
 // A memory reference's bytes and flag.
-ghost use Rattle.std.specs.Prelude.{◌≡◌, ◌+◌, ◌≤◌, ◌↔◌, length, replicate, vec_len, false, IfOk, OnOk, OnErr};
+ghost use Rattle.std.specs.Prelude.{◌≡◌, ◌+◌, ◌≤◌, ◌↔◌, length, take, drop, replicate, vec_len, false, IfOk, OnOk, OnErr};
 ghost use Rattle.kernel_values.specs.declared.state.MemoryRef.{MemoryRef};
-ghost use Rattle.memref.specs.Ranges.{is_lawful_size, read_refusal, write_refusal, answer_of, part, overwritten};
+ghost use Rattle.kernel_types.specs.Memories.{is_lawful_size, overwritten, written};
+ghost use Rattle.memref.specs.Ranges.{read_refusal, write_refusal, answer_of};
 
 use bitflags::Flags;
 use kernel_values::{Errno, MemFlags};
@@ -21,7 +22,7 @@ pub struct MemRef {
 impl Model for MemRef {
     ghost use Rattle.std.specs.Prelude.{IsTrue, vec_len};
     ghost use Rattle.kernel_values.specs.declared.state.MemoryRef.{MemoryRef};
-    ghost use Rattle.memref.specs.Ranges.{is_lawful_size};
+    ghost use Rattle.kernel_types.specs.Memories.{is_lawful_size};
 
     ghost Value = { MemoryRef };
 
@@ -60,7 +61,7 @@ fn zeros(alloc: Global, count: usize) -> Result<Vec<u8>, AllocError>
 // Writes the bytes over those that stand from `at` on.
 fn overwrite(memory: &mut [u8], at: usize, bytes: &[u8])
     requires { at + length bytes.now ≤ length memory.old }
-    ensures { memory.new ≡ overwritten memory.old at bytes.now }
+    ensures { memory.new ≡ overwritten at bytes.now memory.old }
 {
     memory[at..at + bytes.len()].copy_from_slice(bytes);
 }
@@ -91,7 +92,7 @@ impl MemRef {
     /// they end past the size; `out` is then as before.
     pub fn read_into(&self, offset: u32, out: &mut [u8]) -> Result<(), Errno>
         ensures answer { result ≡ answer_of (read_refusal self.now offset (length out.old)) }
-        ensures read { OnOk result (out.new ≡ part self.now.bytes offset (length out.old)) }
+        ensures read { OnOk result (out.new ≡ take (length out.old) (drop offset self.now.bytes)) }
         ensures kept { OnErr result (out.new ≡ out.old) }
     {
         let at = offset as usize;
@@ -109,7 +110,7 @@ impl MemRef {
     /// then as before.
     pub fn write(&mut self, offset: u32, bytes: &[u8]) -> Result<(), Errno>
         ensures answer { result ≡ answer_of (write_refusal self.old offset (length bytes.now)) }
-        ensures written { OnOk result (self.new ≡ record self.old { bytes = overwritten self.old.bytes offset bytes.now }) }
+        ensures written { OnOk result (self.new ≡ written offset bytes.now self.old) }
         ensures kept { OnErr result (self.new ≡ self.old) }
     {
         let at = offset as usize;

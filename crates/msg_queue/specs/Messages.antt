@@ -1,11 +1,15 @@
 -- Queues of messages: filled ones, and ones that were opened under an id and are not retired yet, in
 -- the order in which they were sent.
-use Rattle.std.specs.Prelude.{ℕ, ◌+◌, ◌-◌, ◌==◌, Bool, true, false, not, nat_lt, List, [], ◌∷◌, ◌++◌, length, min, filter, find, take, drop, Option, Some, None, option_map, slice_get, slice_set, if◌then◌else◌}
-use Rattle.std.specs.List.{list_any, position_or_len, range_with_len}
-use Rattle.std.specs.Option.{unwrap_or}
+use Rattle.std.specs.Prelude.{ℕ, ◌+◌, ◌-◌, Bool, not, nat_lt, List, [], ◌∷◌, ◌++◌, length, min, filter, find, take, drop, Option, Some, None, if◌then◌else◌}
+use Rattle.std.specs.List.{position_or_len}
 use Rattle.kernel_values.specs.declared.state.Message.{Message}
+use Rattle.kernel_types.specs.Objects.{map_at}
 use Rattle.msg_queue.specs.declared.queue.Opened.{Opened}
 use Rattle.msg_queue.specs.declared.queue.Retired.{Retired}
+-- Filled messages, opened ones and their ids, and a message that is sent or opened are said with the calls, in kernel_types.
+pub use Rattle.kernel_types.specs.Events.{is_unopened, is_filled}
+pub use Rattle.kernel_types.specs.Messages.{has_id, is_opened_as, is_free_id, new_message, opened_as}
+unfoldable pub use Rattle.kernel_types.specs.Messages.{free_id}
 
 -- how many slots of how many bytes there are, the number that the next message gets, and the messages
 pub record Queued : Type 0 where
@@ -14,20 +18,6 @@ pub record Queued : Type 0 where
   pub next : ℕ
   pub messages : List Message
 
-abbrev pub is_unopened : Option ℕ → Bool
-is_unopened None = true
-is_unopened (Some id) = false
-
-abbrev pub is_filled : Message → Bool
-is_filled message = is_unopened message.opened
-
-abbrev pub has_id : ℕ → Option ℕ → Bool
-has_id id None = false
-has_id id (Some other) = other == id
-
-abbrev pub is_opened_as : ℕ → Message → Bool
-is_opened_as id message = has_id id message.opened
-
 -- the oldest filled message, and the message that was opened under an id
 abbrev pub first_filled : List Message → Option Message
 first_filled messages = find is_filled messages
@@ -35,17 +25,7 @@ first_filled messages = find is_filled messages
 abbrev pub opened_at : List Message → ℕ → Option Message
 opened_at messages id = find (is_opened_as id) messages
 
--- the least number from 1 that no opened message has
-abbrev pub is_free_id : List Message → ℕ → Bool
-is_free_id messages id = not (list_any (is_opened_as id) messages)
-
-unfoldable pub free_id : List Message → ℕ
-free_id messages = unwrap_or (find (is_free_id messages) (range_with_len 1 (length messages + 1))) 0
-
 -- a message is sent
-abbrev pub new_message : ℕ → List ℕ → List ℕ → Message
-new_message seq bytes parts = record { seq = seq; bytes = bytes; parts = parts; opened = None }
-
 abbrev pub pushed : Queued → List ℕ → List ℕ → Queued
 pushed queue bytes parts = record queue {
   messages = queue.messages ++ new_message queue.next bytes parts ∷ [];
@@ -53,16 +33,6 @@ pushed queue bytes parts = record queue {
 }
 
 -- the oldest filled message is opened
-abbrev pub opened_as : ℕ → Message → Message
-opened_as id message = record message { opened = Some id }
-
-abbrev pub set_if : List Message → ℕ → Option Message → List Message
-set_if messages at None = messages
-set_if messages at (Some message) = slice_set messages at message
-
-abbrev pub map_at : (Message → Message) → List Message → ℕ → List Message
-map_at change messages at = set_if messages at (option_map change (slice_get messages at))
-
 abbrev pub with_opened : List Message → List Message
 with_opened messages = map_at (opened_as (free_id messages)) messages (position_or_len is_filled messages)
 

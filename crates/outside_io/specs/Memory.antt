@@ -1,5 +1,5 @@
 -- Sources and sinks in memory, as contracts see them.
-use Rattle.std.specs.Prelude.{◌==◌, ℕ, ◌-◌, Bool, List, ◌++◌, length, take, drop, min, ◌||◌, if◌then◌else◌}
+use Rattle.std.specs.Prelude.{◌==◌, ℕ, ◌-◌, Bool, List, ◌++◌, length, take, drop, max, min, ◌||◌, if◌then◌else◌}
 use Rattle.outside_io.specs.Faults.{later}
 use Rattle.outside_io.specs.Plans.{fails_next, went_on}
 use Rattle.outside_io.specs.declared.plan.Plan.{Plan}
@@ -43,16 +43,17 @@ spoiled sheet = record sheet { faults = later sheet.faults }
 abbrev pub after_write : Sheet → List ℕ → Sheet
 after_write sheet bytes = if is_full sheet then spoiled sheet else inked sheet bytes
 
--- a source whose calls fail by a plan
+-- a source whose calls fail by a plan, and the most bytes that one of its reads asked for
 pub record PlannedFeed : Type 0 where
   pub feed : Feed
   pub plan : Plan
   pub faults : ℕ
+  pub asked : ℕ
 
 abbrev pub after_planned_read : PlannedFeed → ℕ → PlannedFeed
 after_planned_read source room = if fails_next source.plan
-    then record source { plan = went_on source.plan; faults = later source.faults }
-    else record source { plan = went_on source.plan; feed = fed source.feed room }
+    then record source { plan = went_on source.plan; faults = later source.faults; asked = max source.asked room }
+    else record source { plan = went_on source.plan; feed = fed source.feed room; asked = max source.asked room }
 
 -- a sink whose calls fail by a plan, and which takes at most `piece` bytes a write
 pub record PlannedSheet : Type 0 where

@@ -1,5 +1,5 @@
 // A source and a sink in memory whose calls fail where they are told to.
-ghost use Rattle.std.specs.Prelude.{◌≡◌, ◌+◌, ◌<◌, ◌≤◌, ◌↔◌, [], length, min, IfOk, IsErr, IsTrue, Some, if◌then◌else◌};
+ghost use Rattle.std.specs.Prelude.{◌≡◌, ◌+◌, ◌<◌, ◌≤◌, ◌↔◌, [], length, max, min, IfOk, IsErr, IsTrue, Some, if◌then◌else◌};
 ghost use Rattle.std.specs.Io.{ReadsAtMost};
 ghost use Rattle.std.specs.Io.KnownBytes.{ReadConsumes, WriteAppends};
 ghost use Rattle.outside_io.specs.Faults.{HasCause};
@@ -20,6 +20,7 @@ pub struct MemSource {
     feed: QuietSource,
     plan: Plan,
     faults: u64,
+    asked: usize,
 }
 
 impl Model for MemSource {
@@ -27,7 +28,7 @@ impl Model for MemSource {
 
     ghost Value = { PlannedFeed };
 
-    ghost view = { λ s. record { feed = s.feed; plan = s.plan; faults = s.faults } };
+    ghost view = { λ s. record { feed = s.feed; plan = s.plan; faults = s.faults; asked = s.asked } };
 }
 
 impl MemSource {
@@ -44,12 +45,14 @@ impl MemSource {
           feed = record { left = bytes.now; piece = piece };
           plan = record { fails = fails.now; calls = 0 };
           faults = 0;
+          asked = 0;
         }) }
     {
         Ok(MemSource {
             feed: QuietSource::new(alloc, bytes, piece)?,
             plan: Plan::new(alloc, fails)?,
             faults: 0,
+            asked: 0,
         })
     }
 
@@ -68,6 +71,8 @@ impl Source for MemSource {
 
     ghost calls = { λ s. s.plan.calls };
 
+    ghost asked = { λ s. s.asked };
+
     fn read(&mut self, buf: &mut [u8]) -> Result<usize, Failed>
         requires { 0 < length buf.old }
         ensures fails { IsErr result ↔ IsTrue (fails_next self.old.plan) }
@@ -78,7 +83,9 @@ impl Source for MemSource {
         ensures taken { ReadConsumes (Some self.old.feed.left) (Some self.new.feed.left) result buf.new }
         ensures cause { HasCause self.old.faults self.new.faults result }
         ensures counted { self.new.plan.calls ≤ self.old.plan.calls + 1 }
+        ensures asked { self.new.asked ≤ max self.old.asked (length buf.old) }
     {
+        self.asked = self.asked.max(buf.len());
         if self.plan.next_call() {
             self.faults = counted(self.faults);
             return Err(Failed);

@@ -1,5 +1,5 @@
 // A place that bytes are read from, and the loop that reads all of them.
-ghost use Rattle.std.specs.Prelude.{◌≡◌, ◌≢◌, ℕ, ◌+◌, ◌<◌, ◌≤◌, List, length, Option, IfOk, IsErrOf};
+ghost use Rattle.std.specs.Prelude.{◌≡◌, ◌≢◌, ℕ, ◌+◌, ◌<◌, ◌≤◌, max, List, length, Option, IfOk, IfSome, IsErrOf};
 ghost use Rattle.std.specs.Io.{ReadsAtMost};
 ghost use Rattle.std.specs.Io.KnownBytes.{ReadConsumes};
 ghost use Rattle.std.specs.Prelude.{vec_len};
@@ -20,13 +20,17 @@ pub trait Source {
     /// How many reads were made, where the source counts them.
     ghost calls: { Self → ℕ } = { λ _. 0 };
 
+    /// The most bytes that one of the reads made asked for, where the source keeps it.
+    ghost asked: { Self → ℕ } = { λ _. 0 };
+
     /// Reads at most as many bytes as the buffer has, into its front. 0 is the end of what is left.
     fn read(&mut self, buf: &mut [u8]) -> Result<usize, Failed>
         requires { 0 < length buf.old }
         ensures bound { ReadsAtMost result buf.new }
         ensures taken { ReadConsumes (left self.old) (left self.new) result buf.new }
         ensures cause { HasCause (faults self.old) (faults self.new) result }
-        ensures counted { calls self.new ≤ calls self.old + 1 };
+        ensures counted { calls self.new ≤ calls self.old + 1 }
+        ensures asked { asked self.new ≤ max (asked self.old) (length buf.old) };
 }
 
 /// The most bytes that `read_all` takes as an input.
@@ -75,6 +79,7 @@ fn zeros(alloc: Global, count: usize) -> Result<Vec<u8>, AllocError>
 
 /// Reads all that is left of a source, at most `INPUT_LIMIT` bytes of it. What is kept grows
 /// with what was read.
+#[tactic(auto, using(crate::proofs::Known::within_left))]
 pub fn read_all<S: Source>(alloc: Global, source: &mut S) -> Result<Vec<u8>, ReadRefused>
     ensures whole { IfOk result (λ bytes. ReadsWhole INPUT_LIMIT (S.left source.old) (S.left source.new) bytes.items) }
     ensures failed { IsErrOf result ReadRefused.Failed → Rose (S.faults source.old) (S.faults source.new)
@@ -88,6 +93,11 @@ pub fn read_all<S: Source>(alloc: Global, source: &mut S) -> Result<Vec<u8>, Rea
     // Each read but the last takes a byte at least.
     ensures turns { S.calls source.new ≤ S.calls source.old + INPUT_LIMIT + 1 }
     ensures turns_of { IfOk result (λ bytes. S.calls source.new ≤ S.calls source.old + length bytes.items + 1) }
+
+    ensures turns_left { IfSome (S.left source.old) (λ input. S.calls source.new ≤ S.calls source.old + length input + 1) }
+
+    // No read asks for more than a piece.
+    ensures asked { S.asked source.new ≤ max (S.asked source.old) READ_SIZE }
 {
     let mut bytes = Vec::new(alloc);
     let mut buffer = zeros(alloc, READ_SIZE)?;

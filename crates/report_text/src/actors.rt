@@ -113,7 +113,7 @@ fn print_call<K: Sink>(
     answer: Option<&Answer>,
     sink: &mut K,
 ) -> Result<(), PrintRefused>
-    ensures { Prints (K.written sink.old) (K.written sink.new) (K.faults sink.old) (K.faults sink.new) result (lined (answered_call_words (call.now, option_copied answer.entry))) }
+    ensures { Prints (K.written sink.old) (K.written sink.new) (K.faults sink.old) (K.faults sink.new) (K.calls sink.old) (K.calls sink.new) result (lined (answered_call_words (call.now, option_copied answer.entry))) }
 {
     line.clear();
     write_answered_call(line, call, answer)?;
@@ -128,7 +128,7 @@ fn print_own_call<K: Sink>(
     later: &[Entry],
     sink: &mut K,
 ) -> Result<(), PrintRefused>
-    ensures { Prints (K.written sink.old) (K.written sink.new) (K.faults sink.old) (K.faults sink.new) result (text_of (map answered_call_words (led_by (begun_by actor entry.now.event) (final_answer actor entry.now.answer later.now) []))) }
+    ensures { Prints (K.written sink.old) (K.written sink.new) (K.faults sink.old) (K.faults sink.new) (K.calls sink.old) (K.calls sink.new) result (text_of (map answered_call_words (led_by (begun_by actor entry.now.event) (final_answer actor entry.now.answer later.now) []))) }
 {
     match begun_by(actor, &entry.event) {
         None => Ok(()),
@@ -142,7 +142,7 @@ fn print_own_calls<K: Sink>(
     entries: &[Entry],
     sink: &mut K,
 ) -> Result<(), PrintRefused>
-    ensures { Prints (K.written sink.old) (K.written sink.new) (K.faults sink.old) (K.faults sink.new) result (text_of (map answered_call_words (calls_of actor entries.now))) }
+    ensures { Prints (K.written sink.old) (K.written sink.new) (K.faults sink.old) (K.faults sink.new) (K.calls sink.old) (K.calls sink.new) result (text_of (map answered_call_words (calls_of actor entries.now))) }
 {
     for k in 0..entries.len() {
         let (_, later) = entries.split_at(k + 1);
@@ -177,7 +177,7 @@ fn print_actor<K: Sink>(
     calls: u64,
     sink: &mut K,
 ) -> Result<(), PrintRefused>
-    ensures { Prints (K.written sink.old) (K.written sink.new) (K.faults sink.old) (K.faults sink.new) result (lined (actor_words name.now calls)) }
+    ensures { Prints (K.written sink.old) (K.written sink.new) (K.faults sink.old) (K.faults sink.new) (K.calls sink.old) (K.calls sink.new) result (lined (actor_words name.now calls)) }
 {
     line.clear();
     write_actor(line, name, calls)?;
@@ -191,7 +191,7 @@ fn print_one_actor<K: Sink>(
     entries: &[Entry],
     sink: &mut K,
 ) -> Result<(), PrintRefused>
-    ensures { Prints (K.written sink.old) (K.written sink.new) (K.faults sink.old) (K.faults sink.new) result (text_of (one_actor_lines entries.now actor name.now)) }
+    ensures { Prints (K.written sink.old) (K.written sink.new) (K.faults sink.old) (K.faults sink.new) (K.calls sink.old) (K.calls sink.new) result (text_of (one_actor_lines entries.now actor name.now)) }
 {
     print_actor(line, name, count_calls(actor, entries), sink)?;
     print_own_calls(line, actor, entries, sink)
@@ -204,7 +204,7 @@ pub fn print_actors<K: Sink>(
     entries: &[Entry],
     sink: &mut K,
 ) -> Result<(), PrintRefused>
-    ensures { Prints (K.written sink.old) (K.written sink.new) (K.faults sink.old) (K.faults sink.new) result (text_of (actors_lines entries.now 0 names.now)) }
+    ensures { Prints (K.written sink.old) (K.written sink.new) (K.faults sink.old) (K.faults sink.new) (K.calls sink.old) (K.calls sink.new) result (text_of (actors_lines entries.now 0 names.now)) }
 {
     let all = names.as_slice();
     for actor in 0..all.len() {

@@ -27,7 +27,7 @@ fn print_count<K: Sink>(
     facts: &EndFacts,
     sink: &mut K,
 ) -> Result<(), PrintRefused>
-    ensures { Prints (K.written sink.old) (K.written sink.new) (K.faults sink.old) (K.faults sink.new) result (lined (count_words k facts.now)) }
+    ensures { Prints (K.written sink.old) (K.written sink.new) (K.faults sink.old) (K.faults sink.new) (K.calls sink.old) (K.calls sink.new) result (lined (count_words k facts.now)) }
 {
     line.clear();
     write_count(line, k, facts)?;
@@ -41,7 +41,7 @@ fn print_count_at<K: Sink>(
     k: u64,
     sink: &mut K,
 ) -> Result<(), PrintRefused>
-    ensures { Prints (K.written sink.old) (K.written sink.new) (K.faults sink.old) (K.faults sink.new) result (text_of (count_line_at k (slice_get journal.now.facts k))) }
+    ensures { Prints (K.written sink.old) (K.written sink.new) (K.faults sink.old) (K.faults sink.new) (K.calls sink.old) (K.calls sink.new) result (text_of (count_line_at k (slice_get journal.now.facts k))) }
 {
     match journal.facts(k) {
         None => Ok(()),
@@ -54,7 +54,7 @@ fn print_count_lines<K: Sink>(
     journal: &Journal,
     sink: &mut K,
 ) -> Result<(), PrintRefused>
-    ensures { Prints (K.written sink.old) (K.written sink.new) (K.faults sink.old) (K.faults sink.new) result (text_of (count_lines 0 journal.now.entries journal.now.facts)) }
+    ensures { Prints (K.written sink.old) (K.written sink.new) (K.faults sink.old) (K.faults sink.new) (K.calls sink.old) (K.calls sink.new) result (text_of (count_lines 0 journal.now.entries journal.now.facts)) }
 {
     for k in 0..journal.len() {
         print_count_at(line, journal, k, sink)?;
@@ -68,7 +68,7 @@ pub fn print_counts<K: Sink>(
     journal: &Journal,
     sink: &mut K,
 ) -> Result<(), PrintRefused>
-    ensures { Prints (K.written sink.old) (K.written sink.new) (K.faults sink.old) (K.faults sink.new) result (text_of (counts_lines journal.now.entries journal.now.facts)) }
+    ensures { Prints (K.written sink.old) (K.written sink.new) (K.faults sink.old) (K.faults sink.new) (K.calls sink.old) (K.calls sink.new) result (text_of (counts_lines journal.now.entries journal.now.facts)) }
 {
     print_head(line, "counts", journal.len(), sink)?;
     print_count_lines(line, journal, sink)

@@ -60,7 +60,7 @@ fn print_entry<K: Sink>(
     entry: &Entry,
     sink: &mut K,
 ) -> Result<(), PrintRefused>
-    ensures prints { Prints (K.written sink.old) (K.written sink.new) (K.faults sink.old) (K.faults sink.new) result (lined (entry_words names.now k entry.now)) }
+    ensures prints { Prints (K.written sink.old) (K.written sink.new) (K.faults sink.old) (K.faults sink.new) (K.calls sink.old) (K.calls sink.new) result (lined (entry_words names.now k entry.now)) }
     ensures within { OnOk result (IsEventWithin entry.now.event) }
 {
     line.clear();
@@ -74,7 +74,7 @@ fn print_entries<K: Sink>(
     entries: &[Entry],
     sink: &mut K,
 ) -> Result<(), PrintRefused>
-    ensures prints { Prints (K.written sink.old) (K.written sink.new) (K.faults sink.old) (K.faults sink.new) result (text_of (entry_lines names.now 0 entries.now)) }
+    ensures prints { Prints (K.written sink.old) (K.written sink.new) (K.faults sink.old) (K.faults sink.new) (K.calls sink.old) (K.calls sink.new) result (text_of (entry_lines names.now 0 entries.now)) }
     ensures within { OnOk result (AreWithin entries.now) }
 {
     for k in 0..entries.len() {
@@ -96,7 +96,7 @@ pub fn print_head<K: Sink>(
     count: u64,
     sink: &mut K,
 ) -> Result<(), PrintRefused>
-    ensures { Prints (K.written sink.old) (K.written sink.new) (K.faults sink.old) (K.faults sink.new) result (lined (word.now ∷ decimal count ∷ [])) }
+    ensures { Prints (K.written sink.old) (K.written sink.new) (K.faults sink.old) (K.faults sink.new) (K.calls sink.old) (K.calls sink.new) result (lined (word.now ∷ decimal count ∷ [])) }
 {
     line.clear();
     write_head(line, word, count)?;
@@ -110,7 +110,7 @@ pub fn print_history<K: Sink>(
     entries: &[Entry],
     sink: &mut K,
 ) -> Result<(), PrintRefused>
-    ensures prints { Prints (K.written sink.old) (K.written sink.new) (K.faults sink.old) (K.faults sink.new) result (text_of (history_lines names.now entries.now)) }
+    ensures prints { Prints (K.written sink.old) (K.written sink.new) (K.faults sink.old) (K.faults sink.new) (K.calls sink.old) (K.calls sink.new) result (text_of (history_lines names.now entries.now)) }
     ensures within { OnOk result (AreWithin entries.now) }
 {
     print_head(line, "history", entries.len() as u64, sink)?;

@@ -151,7 +151,7 @@ fn after_blank(text: &[u8]) -> &[u8]
 
 /// Ends the line and writes it without its first blank, by one call of `write_all`.
 pub fn print_line<K: Sink>(line: &mut Line, sink: &mut K) -> Result<(), PrintRefused>
-    ensures { Prints (K.written sink.old) (K.written sink.new) (K.faults sink.old) (K.faults sink.new) result (drop 1 line.old ++ line_end ∷ []) }
+    ensures { Prints (K.written sink.old) (K.written sink.new) (K.faults sink.old) (K.faults sink.new) (K.calls sink.old) (K.calls sink.new) result (drop 1 line.old ++ line_end ∷ []) }
 {
     line.end()?;
     write_all(sink, after_blank(line.as_slice()))?;

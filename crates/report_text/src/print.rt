@@ -31,7 +31,7 @@ fn write_end(line: &mut Line, end: &EndFacts) -> Result<(), NoMemory>
 }
 
 fn print_end<K: Sink>(line: &mut Line, end: &EndFacts, sink: &mut K) -> Result<(), PrintRefused>
-    ensures { Prints (K.written sink.old) (K.written sink.new) (K.faults sink.old) (K.faults sink.new) result (lined (end_words end.now)) }
+    ensures { Prints (K.written sink.old) (K.written sink.new) (K.faults sink.old) (K.faults sink.new) (K.calls sink.old) (K.calls sink.new) result (lined (end_words end.now)) }
 {
     line.clear();
     write_end(line, end)?;
@@ -45,7 +45,7 @@ fn print_body<K: Sink>(
     form: Form,
     sink: &mut K,
 ) -> Result<(), PrintRefused>
-    ensures prints { Prints (K.written sink.old) (K.written sink.new) (K.faults sink.old) (K.faults sink.new) result (text_of (body_lines names.now journal.now.entries journal.now.facts form)) }
+    ensures prints { Prints (K.written sink.old) (K.written sink.new) (K.faults sink.old) (K.faults sink.new) (K.calls sink.old) (K.calls sink.new) result (text_of (body_lines names.now journal.now.entries journal.now.facts form)) }
     ensures within { form ≡ History → OnOk result (AreWithin journal.now.entries) }
 {
     match form {
@@ -68,7 +68,7 @@ pub fn print_report<K: Sink>(
     form: Form,
     sink: &mut K,
 ) -> Result<(), PrintRefused>
-    ensures prints { Prints (K.written sink.old) (K.written sink.new) (K.faults sink.old) (K.faults sink.new) result (report_told scene.now journal.now.entries journal.now.facts end.now form) }
+    ensures prints { Prints (K.written sink.old) (K.written sink.new) (K.faults sink.old) (K.faults sink.new) (K.calls sink.old) (K.calls sink.new) result (report_told scene.now journal.now.entries journal.now.facts end.now form) }
     ensures fixes { form ≡ History → OnOk result (TellsOnly scene.now journal.now.entries (report_told scene.now journal.now.entries journal.now.facts end.now form)) }
 {
     // Read for the proof alone: a scene that is read is known to be lawful.

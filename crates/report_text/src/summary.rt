@@ -86,7 +86,7 @@ fn print_history_line<K: Sink>(
     entries: &[Entry],
     sink: &mut K,
 ) -> Result<(), PrintRefused>
-    ensures { Prints (K.written sink.old) (K.written sink.new) (K.faults sink.old) (K.faults sink.new) result (lined (history_words entries.now)) }
+    ensures { Prints (K.written sink.old) (K.written sink.new) (K.faults sink.old) (K.faults sink.new) (K.calls sink.old) (K.calls sink.new) result (lined (history_words entries.now)) }
 {
     line.clear();
     write_history(line, entries)?;
@@ -98,7 +98,7 @@ fn print_answers_line<K: Sink>(
     entries: &[Entry],
     sink: &mut K,
 ) -> Result<(), PrintRefused>
-    ensures { Prints (K.written sink.old) (K.written sink.new) (K.faults sink.old) (K.faults sink.new) result (lined (answers_words entries.now)) }
+    ensures { Prints (K.written sink.old) (K.written sink.new) (K.faults sink.old) (K.faults sink.new) (K.calls sink.old) (K.calls sink.new) result (lined (answers_words entries.now)) }
 {
     line.clear();
     write_answers(line, entries)?;
@@ -111,7 +111,7 @@ pub fn print_summary<K: Sink>(
     entries: &[Entry],
     sink: &mut K,
 ) -> Result<(), PrintRefused>
-    ensures { Prints (K.written sink.old) (K.written sink.new) (K.faults sink.old) (K.faults sink.new) result (text_of (summary_lines entries.now)) }
+    ensures { Prints (K.written sink.old) (K.written sink.new) (K.faults sink.old) (K.faults sink.new) (K.calls sink.old) (K.calls sink.new) result (text_of (summary_lines entries.now)) }
 {
     print_history_line(line, entries, sink)?;
     print_answers_line(line, entries, sink)

@@ -1,5 +1,5 @@
 -- What is kept so far is what left the source, and no read failed.
-use Rattle.std.proofs.Common.{◌≡◌, ◌+◌, ◌-◌, ◌≤◌, vec_len}
+use Rattle.std.proofs.Common.{◌≡◌, ◌+◌, ◌-◌, ◌≤◌, max, vec_len}
 use Rattle.std.specs.Io.KnownBytes.{Consumes}
 use Rattle.outside_io.proofs.reading.read_all.Given as goal
 
@@ -10,6 +10,7 @@ invariant-reads g l = record {
   room : vec_len l.buffer ≡ 65536;
   same : g.S.Source.faults l.source ≡ g.S.Source.faults l.initial.source;
   turns : g.S.Source.calls l.source ≤ g.S.Source.calls l.initial.source + vec_len l.bytes;
+  asked : g.S.Source.asked l.source ≤ max (g.S.Source.asked l.initial.source) 65536;
 }
 
 abbrev pub decreases-reads : goal.decreases-reads

@@ -7,5 +7,5 @@ use Rattle.report_text.proofs.Printed.{Printed}
 use Rattle.report_text.proofs.actors.print_own_calls.Given as goal
 
 abbrev pub invariant-loop-k : goal.invariant-loop-k
-invariant-loop-k g l = Printed (g.K.Sink.written l.initial.sink) (g.K.Sink.written l.sink) (g.K.Sink.faults l.initial.sink) (g.K.Sink.faults l.sink)
+invariant-loop-k g l = Printed (g.K.Sink.written l.initial.sink) (g.K.Sink.written l.sink) (g.K.Sink.faults l.initial.sink) (g.K.Sink.faults l.sink) (g.K.Sink.calls l.initial.sink) (g.K.Sink.calls l.sink)
     (text_of (map answered_call_words (calls_of l.actor l.entries))) (text_of (map answered_call_words (calls_of l.actor (drop l.k l.entries))))

@@ -7,7 +7,7 @@ use Rattle.report_text.proofs.Printed.{begun, went_on, stopped, all_printed}
 use Rattle.report_text.proofs.counts.print_count_lines.Goals as goal
 
 pub loop-k-init : goal.loop-k-init
-loop-k-init g c = begun _ _ _
+loop-k-init g c = begun _ _ _ _
 
 pub loop-k-preserved : goal.loop-k-preserved
 loop-k-preserved g c =

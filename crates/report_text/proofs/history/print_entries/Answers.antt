@@ -7,7 +7,7 @@ use Rattle.report_text.proofs.TypesKept.{none_yet, one_more, all_within}
 use Rattle.report_text.proofs.history.print_entries.Goals as goal
 
 pub loop-k-init : goal.loop-k-init
-loop-k-init g c = (begun _ _ _, none_yet c.args.entries.now)
+loop-k-init g c = (begun _ _ _ _, none_yet c.args.entries.now)
 
 pub loop-k-preserved : goal.loop-k-preserved
 loop-k-preserved g c = (

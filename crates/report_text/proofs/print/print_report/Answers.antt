@@ -14,13 +14,13 @@ pub returns-in_err-print_body-clause-prints : goal.returns-in_err-print_body-cla
 returns-in_err-print_body-clause-prints g c =
     stopped (text_of (body_lines c.in_ok-names.names c.args.journal.now.entries c.args.journal.now.facts c.args.form)) (lined (end_words c.args.end.now))
     (report_is c.args.scene.now c.in_ok-names.names _ _ _ _ c.in_ok-names.ensures)
-    (begun _ _ _) c.in_err-print_body.ensures.prints c.from_residual-in_err-print_body.ensures.1
+    (begun _ _ _ _) c.in_err-print_body.ensures.prints c.from_residual-in_err-print_body.ensures.1
 
 pub returns-clause-prints : goal.returns-clause-prints
 returns-clause-prints g c =
     went_to_end (went_on (text_of (body_lines c.in_ok-names.names c.args.journal.now.entries c.args.journal.now.facts c.args.form)) (lined (end_words c.args.end.now))
     (report_is c.args.scene.now c.in_ok-names.names _ _ _ _ c.in_ok-names.ensures)
-    (begun _ _ _) c.in_ok-print_body.ensures.prints) c.print_end.ensures
+    (begun _ _ _ _) c.in_ok-print_body.ensures.prints) c.print_end.ensures
 
 pub returns-clause-fixes : goal.returns-clause-fixes
 returns-clause-fixes g c = λ is. whatever c.print_end.result

@@ -6,9 +6,9 @@ use Rattle.report_text.proofs.summary.print_summary.Goals as goal
 pub returns-in_err-print_history_line : goal.returns-in_err-print_history_line
 returns-in_err-print_history_line g c =
     stopped (lined (history_words c.args.entries.now)) (lined (answers_words c.args.entries.now)) (one_more (history_words c.args.entries.now) (answers_words c.args.entries.now))
-    (begun _ _ _) c.in_err-print_history_line.ensures c.from_residual.ensures.1
+    (begun _ _ _ _) c.in_err-print_history_line.ensures c.from_residual.ensures.1
 
 pub returns : goal.returns
 returns g c =
     went_to_end (went_on (lined (history_words c.args.entries.now)) (lined (answers_words c.args.entries.now)) (one_more (history_words c.args.entries.now) (answers_words c.args.entries.now))
-    (begun _ _ _) c.in_ok-print_history_line.ensures) c.print_answers_line.ensures
+    (begun _ _ _ _) c.in_ok-print_history_line.ensures) c.print_answers_line.ensures

@@ -1,7 +1,8 @@
 use Rattle.std.proofs.Common.{◌≡◌, ◌<◌, ◌≤◌, ℕ, ap, ◌∙◌, arith}
 use Rattle.std.specs.Int.{w64}
 use Rattle.std.proofs.lemmas.Nat.Bits.{bit_at-trailing_ones}
-use Rattle.handle_table.specs.Tables.{new_entry, with_entry}
+use Rattle.handle_table.specs.Tables.{with_entry}
+use Rattle.handle_table.proofs.Lists.{new_entry}
 use Rattle.handle_table.specs.Places.{entries}
 use Rattle.handle_table.proofs.Tables.{len_le, not_all, free_is, come_is, come_table}
 use Rattle.handle_table.proofs.table.Table.install.Goals as goal
