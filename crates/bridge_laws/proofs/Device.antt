@@ -31,7 +31,8 @@ use Rattle.kernel_types.specs.Device.Due.{answering, denying, going_online, leav
 use Rattle.kernel_types.specs.Events.{is_disconnected}
 use Rattle.kernel_types.specs.Sending.{control_address}
 use Rattle.kernel_types.specs.declared.bridge.EndView.{EndView}
-use Rattle.bridge_laws.proofs.Core.{connect_names, drop_names, push_leaves, take_leaves}
+use Rattle.step_laws.proofs.BridgeLeaving.{push_leaves, take_leaves}
+use Rattle.bridge_laws.proofs.Core.{connect_names, drop_names}
 use Rattle.bridge_laws.proofs.Counts.{one_if, times, times_apart, times_cons, times_fewer, times_gone}
 use Rattle.bridge_laws.proofs.Entries.{Bridged, IsOneOf, bridged_answered, bridged_less, bridged_more, nothing_bridged}
 
@@ -159,7 +160,7 @@ module _ (c : CoreState) (d : Device) (below : AllByRecursion (λ (x : ℕ). x <
   due_bridged (refusing refusal) is = k
   due_bridged (answering entry view) is = bridged_answered c.bridged d.entries entry.secure k
   due_bridged (denying entry) is = dropped entry is
-  due_bridged (sending entry bytes) is = same_ends (ns_take c entry.end).core (take_leaves c entry.end)
+  due_bridged (sending entry bytes) is = same_ends (ns_take c entry.end).core (take_leaves c entry.end).bridged
   due_bridged (leaving entry) is = dropped entry is
 
   abbrev TakenBridges : Taken → Type 0
@@ -200,28 +201,21 @@ module _ (c : CoreState) (d : Device) (below : AllByRecursion (λ (x : ℕ). x <
   control_bridges src (Ok GoOffline) = k
   control_bridges src (Ok (ConnRsp target status remote size count)) = k
 
-  pushed_bridges : (f : Frame) (payload : List ℕ) (entry : BridgeEntry) → nat_lt (ns_view c entry.end).size (length payload) ≡ false → TakenBridges (bytes_taken c d f payload entry)
-  pushed_bridges f payload entry small =
-      let few : length payload ≤ (ns_view c entry.end).size = grind (arith, tests) in
-      same_ends (ns_push c entry.end payload).core (push_leaves c entry.end payload few)
-
-  viewed_bridges : (f : Frame) (payload : List ℕ) (entry : BridgeEntry) → TakenBridgesIf (take_viewed c d f payload entry (ns_view c entry.end))
-  viewed_bridges f payload entry =
-      let view : EndView = ns_view c entry.end in
+  viewed_bridges : (f : Frame) (payload : List ℕ) (entry : BridgeEntry) (view : EndView) → TakenBridgesIf (take_viewed c d f payload entry view)
+  viewed_bridges f payload entry view =
+      let pushed : TakenBridges (bytes_taken c d f payload entry) = same_ends (ns_push c entry.end payload).core (push_leaves c entry.end payload).bridged in
       let last : Option Taken = cond view.peer_full None (Some (bytes_taken c d f payload entry)) in
-      let P : Bool → Type 0 = λ b. nat_lt view.size (length payload) ≡ b → TakenBridgesIf (cond b (Some (ignores c d ignored.TooBig)) last) in
-      let go : (b : Bool) → P b = λ b. elim b as (λ v. P v) [
-        | true ↦ (λ is. k)
-        | false ↦ (λ is. elim view.peer_full as (λ b. TakenBridgesIf (cond b None (Some (bytes_taken c d f payload entry)))) [ true ↦ tt | false ↦ pushed_bridges f payload entry is ])
-      ] in
+      let last_bridges : TakenBridgesIf last = elim view.peer_full as (λ b. TakenBridgesIf (cond b None (Some (bytes_taken c d f payload entry)))) [ true ↦ tt | false ↦ pushed ] in
+      let small : TakenBridgesIf (cond (nat_lt view.size (length payload)) (Some (ignores c d ignored.TooBig)) last) =
+      elim (nat_lt view.size (length payload)) as (λ b. TakenBridgesIf (cond b (Some (ignores c d ignored.TooBig)) last)) [ true ↦ k | false ↦ last_bridges ] in
       elim (is_disconnected view.state) as (λ b. TakenBridgesIf (cond b (Some (ignores c d ignored.PeerGone)) (cond (nat_lt view.size (length payload)) (Some (ignores c d ignored.TooBig)) last)))
-      [ true ↦ k | false ↦ go (nat_lt view.size (length payload)) refl ]
+      [ true ↦ k | false ↦ small ]
 
   bytes_bridge : (f : Frame) (payload : List ℕ) (o : Option BridgeEntry) → TakenBridgesIf (take_bytes c d f payload o)
   bytes_bridge f payload None = k
   bytes_bridge f payload (Some entry) =
       elim entry.answered as (λ b. TakenBridgesIf (cond b (take_viewed c d f payload entry (ns_view c entry.end)) (Some (ignores c d ignored.NotAnswered))))
-      [ true ↦ viewed_bridges f payload entry | false ↦ k ]
+      [ true ↦ viewed_bridges f payload entry (ns_view c entry.end) | false ↦ k ]
 
   parsed_bridges : (payload : List ℕ) (r : Result Frame FrameFault) → TakenBridgesIf (take_parsed c d payload r)
   parsed_bridges payload (Err fault) = k

@@ -1,5 +1,5 @@
 -- Every step keeps it that the bridge names the ends of its entries and no others, so every history does.
-use Rattle.std.proofs.Common.{◌≡◌, ◌<◌, ℕ, ◌==◌, Bool, true, false, cond, List, [], ◌∷◌, Option, Some, None, refl, subst, sym, ap}
+use Rattle.std.proofs.Common.{◌≡◌, ◌<◌, ℕ, ◌==◌, Bool, true, false, cond, List, [], ◌∷◌, Option, Some, None, refl, subst, sym, ap, ◌∙◌}
 use Rattle.std.specs.List.{AllByRecursion}
 use Rattle.std.specs.Option.{option_map}
 use Rattle.std.proofs.lemmas.List.Elements.{recursion_from_All}
@@ -12,7 +12,7 @@ use Rattle.kernel_values.specs.declared.state.State.{State}
 use Rattle.kernel_values.specs.declared.world.Device.{Device}
 use Rattle.kernel_values.specs.declared.world.World.{World}
 use Rattle.kernel_types.specs.Clients.{Acted}
-use Rattle.kernel_types.specs.CoreStep.{core_begin, core_resume}
+use Rattle.kernel_types.specs.CoreStep.{core_begin, core_idle, core_resume}
 use Rattle.kernel_types.specs.Device.{DeviceStep, device_step}
 use Rattle.kernel_types.specs.History.{next_state, state_after, state_or}
 use Rattle.kernel_types.specs.Limits.{Room, full_room, room_of_call}
@@ -23,9 +23,10 @@ use Rattle.kernel_types.specs.Step.{Stepped, beside_core, client_begin, client_n
 use Rattle.kernel_laws.proofs.Worlds.{ActsIf, begin_acts, resume_acts}
 use Rattle.set_laws.specs.Soundness.{NamesAreGiven}
 use Rattle.set_laws.proofs.Soundness.{openings_given, steps_keep_given}
+use Rattle.step_laws.proofs.Leaving.{sweep_leaves}
+use Rattle.step_laws.proofs.TurnLeaving.{LeftIf, begin_leaves, idle_leaves, resume_leaves}
 use Rattle.name_laws.proofs.Known.{Known, apart}
 use Rattle.bridge_laws.specs.Bridged.{NamesItsEntries}
-use Rattle.bridge_laws.proofs.Core.{begin_leaves, idle_leaves, resume_leaves}
 use Rattle.bridge_laws.proofs.Device.{BridgedLeft, device_bridges}
 use Rattle.bridge_laws.proofs.Entries.{Bridged, nothing_bridged}
 
@@ -43,9 +44,9 @@ given_ends c given =
     known.bridged
 
 module _ (s : State) (given : NamesAreGiven s.core) (k : IsBridged s) where
-  thread_bridged : (o : Option Outcome) → ((outcome : Outcome) → o ≡ Some outcome → outcome.core.bridged ≡ s.core.bridged) → IfBridged (option_map (in_world s.world) o)
-  thread_bridged None leaves = tt
-  thread_bridged (Some outcome) leaves = subst (λ (ends : List ℕ). Bridged ends s.world.device.entries) (sym (leaves outcome refl)) k
+  thread_bridged : (o : Option Outcome) → LeftIf s.core o → IfBridged (option_map (in_world s.world) o)
+  thread_bridged None left = tt
+  thread_bridged (Some outcome) left = subst (λ (ends : List ℕ). Bridged ends s.world.device.entries) (sym left.bridged) k
 
   client_bridged : (room : Room) (o : Option Acted) → ActsIf room s.world o → IfBridged (option_map (beside_core s.core) o)
   client_bridged room None acts = tt
@@ -62,7 +63,7 @@ module _ (s : State) (given : NamesAreGiven s.core) (k : IsBridged s) where
 
   idle_bridged : IsBridged (idle s).state
   idle_bridged =
-      subst (λ (ends : List ℕ). Bridged ends (world_idle (next_deadline s) s.world).device.entries) (sym (idle_leaves s.core (next_deadline s)))
+      subst (λ (ends : List ℕ). Bridged ends (world_idle (next_deadline s) s.world).device.entries) (sym ((sweep_leaves (core_idle (next_deadline s) s.core)).bridged ∙ idle_leaves s.core (next_deadline s)))
       (subst (λ (d : Device). Bridged s.core.bridged d.entries) (sym (idle_device (next_deadline s) s.world)) k)
 
   full_step_bridged : (ev : Event) → IfBridged (full_step s ev)
@@ -70,13 +71,13 @@ module _ (s : State) (given : NamesAreGiven s.core) (k : IsBridged s) where
   full_step_bridged (event.Begin actor start asked) =
       elim (is_thread s actor.0)
       as (λ b. IfBridged (cond b (option_map (in_world s.world) (core_begin s.core actor.0 start asked)) (option_map (beside_core s.core) (client_begin s (client_number s actor.0) start asked)))) [
-        | true ↦ thread_bridged (core_begin s.core actor.0 start asked) (λ outcome is. begin_leaves s.core actor.0 start asked outcome is)
+        | true ↦ thread_bridged (core_begin s.core actor.0 start asked) (begin_leaves s.core actor.0 start asked)
         | false ↦ client_bridged (room_of_call asked) (client_begin s (client_number s actor.0) start asked) (begin_acts s (client_number s actor.0) start asked)
       ]
   full_step_bridged (event.Resume actor start) =
       elim (is_thread s actor.0)
       as (λ b. IfBridged (cond b (option_map (in_world s.world) (core_resume s.core actor.0 start)) (option_map (beside_core s.core) (client_resume s (client_number s actor.0) start)))) [
-        | true ↦ thread_bridged (core_resume s.core actor.0 start) (λ outcome is. resume_leaves s.core actor.0 start outcome is)
+        | true ↦ thread_bridged (core_resume s.core actor.0 start) (resume_leaves s.core actor.0 start)
         | false ↦ client_bridged full_room (client_resume s (client_number s actor.0) start) (resume_acts s (client_number s actor.0) start)
       ]
   full_step_bridged event.Device = device_bridged (device_step s) (device_bridges s (given_ends s.core given) k)
