@@ -1,3 +1,2 @@
 pub mod Deadlines
-pub mod Filling
 pub mod Tables
