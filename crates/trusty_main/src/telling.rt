@@ -78,7 +78,7 @@ fn print<C: IpcKernel + Drop, K: Sink>(
     sink: &mut K,
 ) -> Result<(), PrintRefused>
     requires { logged.now.origin.state ≡ opening scene.now }
-    ensures { Prints (K.written sink.old) (K.written sink.new) (K.faults sink.old) (K.faults sink.new) result (report scene.now logged.now.journal.entries form) }
+    ensures { Prints (K.written sink.old) (K.written sink.new) (K.faults sink.old) (K.faults sink.new) (K.calls sink.old) (K.calls sink.new) result (report scene.now logged.now.journal.entries form) }
 {
     logged.legal();
     let end = logged.kernel().end_facts();
