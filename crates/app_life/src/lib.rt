@@ -5,8 +5,6 @@
 mod apps;
 mod life;
 mod registry;
-#[cfg(test)]
-mod tests;
 mod threads;
 
 pub use apps::Apps;

@@ -14,8 +14,6 @@ mod faults;
 mod flags;
 mod manifest;
 mod ports;
-#[cfg(test)]
-mod tests;
 mod text;
 
 pub use crate::faults::ManifestFault;

@@ -4,7 +4,5 @@
 #![tactic(auto)]
 
 pub mod table;
-#[cfg(test)]
-mod tests;
 
 pub use table::{DupRefused, Full, Slot, Table};

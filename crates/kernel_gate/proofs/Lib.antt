@@ -1,2 +1,1 @@
-pub mod Lones
 pub mod Stepping

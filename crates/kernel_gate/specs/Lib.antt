@@ -1,3 +1,2 @@
-pub mod Lone
 pub mod Seats
 pub mod Steps

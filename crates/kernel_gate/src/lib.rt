@@ -5,8 +5,6 @@
 mod close;
 mod gate;
 mod steps;
-#[cfg(test)]
-mod tests;
 
 pub use close::CloseRefused;
 pub use gate::{Gate, NewRefused, Seat};

@@ -1,5 +1,4 @@
 pub mod Books
 pub mod Logs
 pub mod Moves
-pub mod Quiet
 pub mod Spares

@@ -6,8 +6,6 @@ pub mod journal;
 pub mod logged;
 mod spare;
 pub mod stories;
-#[cfg(test)]
-mod tests;
 
 pub use journal::{Journal, PlaceList};
 pub use logged::{Logged, Receipt};

@@ -15,8 +15,6 @@ pub mod reply;
 pub mod scene;
 pub mod script;
 pub mod state;
-#[cfg(test)]
-mod tests;
 pub mod world;
 
 pub use call::{Call, Timeout};

@@ -5,6 +5,3 @@
 mod memory;
 
 pub use memory::{MemRef, MemRefused};
-
-#[cfg(test)]
-mod tests;

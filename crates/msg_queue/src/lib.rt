@@ -5,7 +5,5 @@
 
 mod place;
 pub mod queue;
-#[cfg(test)]
-mod tests;
 
 pub use queue::{Full, Opened, Queue, Retired};

@@ -13,8 +13,6 @@ mod frames;
 mod inboxes;
 mod laws;
 mod memory;
-#[cfg(test)]
-mod tests;
 mod used;
 mod watching;
 

@@ -6,8 +6,6 @@
 pub mod key;
 pub mod parts;
 pub mod store;
-#[cfg(test)]
-mod tests;
 
 pub use key::ObjKey;
 pub use parts::{MAX_PARTS, Parts};

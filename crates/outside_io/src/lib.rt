@@ -21,6 +21,3 @@ pub use quiet::{QuietSink, QuietSource};
 pub use reading::{INPUT_LIMIT, READ_SIZE, ReadRefused, Source, read_all};
 pub use standard::{StdSink, StdSource};
 pub use writing::{Sink, write_all};
-
-#[cfg(test)]
-mod tests;

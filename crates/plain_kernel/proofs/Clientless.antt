@@ -24,9 +24,9 @@ use Rattle.kernel_types.specs.Step.{Stepped, begin, beside_core, client_begin, c
 use Rattle.kernel_types.specs.Sweep.{kept, pruned, sweep}
 use Rattle.kernel_types.specs.Threads.{activity_changed}
 use Rattle.plain_kernel.specs.Alone.{core_statuses, core_idle_lawful, core_step}
-use Rattle.plain_kernel.specs.Shown.{outcome_if}
+use Rattle.plain_calls.specs.Shown.{outcome_if}
 use Rattle.plain_kernel.specs.Steps.{clientless, idle_outcome, stepped_if, whole}
-use Rattle.plain_kernel.specs.declared.told.Told.{Told}
+use Rattle.plain_calls.specs.declared.told.Told.{Told}
 
 pub alone_statuses : (core : CoreState) (queue : ℕ) → statuses (whole core queue) ≡ core_statuses core
 unfolding statuses core_statuses clientless

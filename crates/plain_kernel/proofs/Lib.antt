@@ -1,14 +1,8 @@
-pub mod Changing
 pub mod Clientless
-pub mod Descending
-pub mod Fewer
 pub mod Filled
-pub mod Numbers
+pub mod NoMoreNames
 pub mod Orders
-pub mod Pruning
 pub mod Pushing
-pub mod Rooms
 pub mod Statuses
 pub mod Summing
 pub mod Taking
-pub mod Waiting

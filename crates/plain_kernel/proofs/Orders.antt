@@ -22,7 +22,7 @@ use Rattle.set_laws.proofs.Bridging.{connected_sound, dropped_sound, idled_sound
 use Rattle.set_laws.proofs.Circles.{no_circle}
 use Rattle.set_laws.proofs.Soundness.{openings_sound, steps_keep_sound}
 use Rattle.plain_kernel.specs.declared.kernel.Next.{Next}
-use Rattle.plain_kernel.specs.declared.told.Told.{Told}
+use Rattle.plain_calls.specs.declared.told.Told.{Told}
 use Rattle.plain_kernel.specs.Orderly.{IsOrderly}
 use Rattle.plain_kernel.specs.Ready.{IsReady}
 use Rattle.plain_kernel.specs.Steps.{clientless, whole, stepped}

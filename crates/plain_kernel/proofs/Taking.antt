@@ -19,7 +19,7 @@ use Rattle.kernel_types.specs.Outcome.{Outcome, gives_with, retired_seq}
 use Rattle.kernel_types.specs.Sweep.{sweep}
 use Rattle.kernel_laws.proofs.Found.{found, found_changed, found_is}
 use Rattle.plain_kernel.specs.Bridged.{filled_at, filled_in, first_retired, id_in, taken}
-use Rattle.plain_kernel.proofs.Changing.{later_changed}
+use Rattle.plain_objects.proofs.Changing.{later_changed}
 
 -- The numbers of a range.
 

@@ -1,12 +1,6 @@
 pub mod Alone
 pub mod Bridged
-pub mod Counting
 pub mod Orderly
-pub mod Pending
 pub mod Ready
-pub mod Reported
-pub mod Shown
 pub mod Standing
 pub mod Steps
-pub mod Surveys
-pub mod Tests

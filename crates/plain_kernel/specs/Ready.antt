@@ -3,7 +3,7 @@ use Rattle.std.specs.Prelude.{◌≡◌, ◌<◌, ◌≤◌, ℕ, Some, length}
 use Rattle.kernel_values.specs.declared.entry.Event.{Event}
 use Rattle.kernel_values.specs.declared.state.State.{State}
 use Rattle.plain_kernel.specs.declared.kernel.Next.{Next}
-use Rattle.plain_kernel.specs.declared.told.Told.{Told}
+use Rattle.plain_calls.specs.declared.told.Told.{Told}
 use Rattle.plain_kernel.specs.Alone.{core_statuses}
 use Rattle.plain_kernel.specs.Steps.{stepped}
 use Rattle.kernel_types.specs.Kernel.{step_limit}

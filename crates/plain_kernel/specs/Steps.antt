@@ -3,7 +3,7 @@ use Rattle.std.specs.Prelude.{ℕ, Option, Some, None}
 use Rattle.kernel_values.specs.declared.state.CoreState.{CoreState}
 use Rattle.kernel_values.specs.declared.world.World.{World}
 use Rattle.kernel_values.specs.declared.state.State.{State}
-use Rattle.plain_kernel.specs.declared.told.Told.{Told}
+use Rattle.plain_calls.specs.declared.told.Told.{Told}
 use Rattle.kernel_types.specs.Opening.{world_without_clients}
 use Rattle.kernel_types.specs.Outcome.{Outcome, no_seqs}
 use Rattle.kernel_types.specs.CoreStep.{least_deadline, core_idle, idle_answer}

@@ -12,20 +12,22 @@ ghost use Rattle.kernel_types.specs.Names.{naming};
 ghost use Rattle.kernel_types.specs.Objects.{end_changed, end_of};
 ghost use Rattle.plain_kernel.specs.Bridged.{connected_if, ns_connect_way, pushed, taken, is_other, filled_at, id_at, first_retired, sent_to, IsNextSent};
 
-use crate::applications::{find_start_port, place_of_server};
-use crate::connects::{add_pair, add_waiting, may_serve, number_of_place, start_unless_running};
-use crate::messages::{open_message, retire, unblock_peer};
-use crate::objects::{find_end, find_published, place_of_object};
-use crate::ports::admits;
-use crate::queues::{find_filled, free_id};
-use crate::sends::add_message;
-use crate::survey::Survey;
-use crate::sweep::{sweep_state, sweep_within};
 use kernel_types::EndView;
 use kernel_values::{
     Body, Bytes, Connector, Copied, CoreState, EndSeq, EndState, Errno, Items, Message, NoMemory,
     ObjId, Object, Port, PortFlags,
 };
+use plain_calls::applications::{find_start_port, place_of_server};
+use plain_calls::connects::{
+    add_pair, add_waiting, may_serve, number_of_place, start_unless_running,
+};
+use plain_calls::messages::{open_message, retire, unblock_peer};
+use plain_calls::ports::admits;
+use plain_calls::sends::add_message;
+use plain_objects::objects::{find_end, find_published, place_of_object};
+use plain_objects::queues::{find_filled, free_id};
+use plain_objects::survey::Survey;
+use plain_objects::sweep::{sweep_state, sweep_within};
 
 #[tactic(auto, unfolding(crate::specs::Bridged::ns_connect_way))]
 fn connect_to_port(core: &mut CoreState, id: u64, port: &Port) -> Result<Option<Errno>, NoMemory>
@@ -256,7 +258,7 @@ fn retire_first(core: &mut CoreState, id: u64)
 }
 
 /// The oldest filled message is opened and retired.
-#[tactic(auto, using(crate::proofs::Taking::taken_first, crate::proofs::Fewer::fewer_taken))]
+#[tactic(auto, using(crate::proofs::Taking::taken_first, crate::proofs::NoMoreNames::fewer_taken))]
 pub fn take(core: &mut CoreState, survey: &mut Survey, id: u64) -> EndSeq
     requires within { All (λ object. IsBodyWithin object.body) core.old.objects }
     requires filled { 0 < (ns_view core.old id).filled }
@@ -322,7 +324,7 @@ fn unname(core: &mut CoreState, end: u64)
 }
 
 /// The bridge names the end no more; where it is broken, the peer gets the error mark.
-#[tactic(auto, unfolding(kernel_types::specs::Bridge::ns_drop), using(crate::proofs::Fewer::fewer_dropped))]
+#[tactic(auto, unfolding(kernel_types::specs::Bridge::ns_drop), using(crate::proofs::NoMoreNames::fewer_dropped))]
 pub fn drop_end(core: &mut CoreState, survey: &mut Survey, id: u64, broken: bool)
     requires { length (naming core.old) ≤ survey.old.room }
     ensures core { core.new ≡ ns_drop broken id core.old }

@@ -14,21 +14,21 @@ ghost use Rattle.plain_kernel.specs.Ready.{IsReady, IsListed};
 ghost use Rattle.plain_kernel.specs.Standing.{state_of, no_client};
 
 use crate::bridge;
-use crate::events::events_of;
 use crate::facts::{any_goes_on, any_runs, facts_of, none_goes_on, statuses_of};
-use crate::names::count_names;
-use crate::objects::is_object_there;
 use crate::opening::opening_core;
 use crate::step::{idle_by, least_deadline, run_event};
-use crate::survey::Survey;
-use crate::sweep::sweep_within;
-use crate::told::Told;
-use crate::waits::{any_may_move, is_movable};
 use kernel_types::{Core, EndView, IpcKernel, NsRefused, StepCause, StepRefused};
 use kernel_values::{
     ActorId, ActorStatus, Bytes, Copied, CoreState, EndFacts, EndSeq, Entry, Event, Events, Items,
     NoMemory, ObjId, Scene,
 };
+use plain_calls::told::Told;
+use plain_objects::names::count_names;
+use plain_objects::objects::is_object_there;
+use plain_objects::survey::Survey;
+use plain_objects::sweep::sweep_within;
+use plain_waits::events::events_of;
+use plain_waits::waits::{any_may_move, is_movable};
 use std::alloc::Global;
 use std::marker::Model;
 

@@ -2,28 +2,28 @@
 
 ghost use Rattle.std.specs.Prelude.{◌≡◌, IfOk, map};
 ghost use Rattle.kernel_types.specs.Built.{is_built};
-ghost use Rattle.plain_kernel.specs.Shown.{outcome_if, outcome};
+ghost use Rattle.plain_calls.specs.Shown.{outcome_if, outcome};
 ghost use Rattle.kernel_types.specs.CoreStep.{act, core_begin, core_resume, deadline_in, sooner, least_deadline_of, least_deadline, cancelled_activity, core_idle, idle_answer};
 ghost use Rattle.kernel_types.specs.Objects.{map_at};
 ghost use Rattle.kernel_types.specs.Threads.{activity_changed};
 ghost use Rattle.plain_kernel.specs.Steps.{idle_outcome};
 ghost use Rattle.plain_kernel.specs.Alone.{core_step, core_idle_lawful};
 
-use crate::accepts::accept_call;
-use crate::applications::{exit_call, finish_call};
-use crate::connects::connect_call;
-use crate::handles::{close_call, dup_call, set_cookie_call};
-use crate::memories::{mem_create_call, mem_read_call, mem_write_call};
-use crate::messages::{get_call, put_call, read_call};
-use crate::ports::port_create_call;
-use crate::sends::send_call;
-use crate::sets::{set_add_call, set_create_call, set_del_call, set_mod_call};
-use crate::sweep::sweep_state;
-use crate::threads::run_again;
-use crate::told::Told;
-use crate::wait_calls::{wait_any_call, wait_call};
-use crate::waits::end_wait;
 use kernel_values::{Activity, Answer, Call, CoreState, Event, Items, NoMemory, Seqs, Thread};
+use plain_calls::accepts::accept_call;
+use plain_calls::applications::{exit_call, finish_call};
+use plain_calls::connects::connect_call;
+use plain_calls::handles::{close_call, dup_call, set_cookie_call};
+use plain_calls::memories::{mem_create_call, mem_read_call, mem_write_call};
+use plain_calls::messages::{get_call, put_call, read_call};
+use plain_calls::ports::port_create_call;
+use plain_calls::sends::send_call;
+use plain_calls::threads::run_again;
+use plain_calls::told::Told;
+use plain_objects::sweep::sweep_state;
+use plain_waits::sets::{set_add_call, set_create_call, set_del_call, set_mod_call};
+use plain_waits::wait_calls::{wait_any_call, wait_call};
+use plain_waits::waits::end_wait;
 
 /// Whether the call has a body: those of a hostile client have none yet.
 fn is_built_call(call: &Call) -> bool
@@ -213,7 +213,7 @@ fn cancel_at(threads: &mut Items<Thread>, at: usize)
     }
 }
 
-#[tactic(auto, using(crate::proofs::Changing::mapped_next, crate::proofs::Changing::mapped_whole))]
+#[tactic(auto, using(plain_objects::proofs::Changing::mapped_next, plain_objects::proofs::Changing::mapped_whole))]
 fn cancel_all(threads: &mut Items<Thread>)
     ensures { threads.new ≡ map (activity_changed cancelled_activity) threads.old }
 {

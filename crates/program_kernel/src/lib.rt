@@ -4,13 +4,6 @@
 ghost use Rattle.std.specs.Prelude.{◌≡◌, IfOk};
 ghost use Rattle.kernel_types.specs.Opening.{opening};
 
-#[cfg(test)]
-mod bridge_tests;
-#[cfg(test)]
-mod gate_tests;
-#[cfg(test)]
-mod worker_tests;
-
 use kernel_types::values::{NoMemory, Scene};
 use ns_bridge::Kernel;
 use plain_kernel::PlainKernel;

@@ -14,8 +14,6 @@ mod names;
 mod print;
 mod refused;
 mod summary;
-#[cfg(test)]
-mod tests;
 
 pub use form::Form;
 pub use print::print_report;

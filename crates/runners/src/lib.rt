@@ -13,8 +13,6 @@ pub mod scripts;
 pub mod serial_order;
 pub mod shared;
 pub mod steps;
-#[cfg(test)]
-mod tests;
 pub mod workers;
 
 pub use replays::{ReplayRefused, replay};

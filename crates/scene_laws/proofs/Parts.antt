@@ -5,7 +5,7 @@ use Rattle.std.specs.List.{filter, slice_split, onto_first}
 use Rattle.std.specs.Str.Lines.{strip_carriage_return}
 use Rattle.std.proofs.lemmas.Bool.{lt-ltb}
 use Rattle.std.proofs.lemmas.List.{length-take}
-use Rattle.scene_reader.specs.Texts.{is_blank, is_some_word, words_of, lines_between, lines_of}
+use Rattle.script_lines.specs.Texts.{is_blank, is_some_word, words_of, lines_between, lines_of}
 
 -- ---- words
 

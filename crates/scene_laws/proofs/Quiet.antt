@@ -5,29 +5,29 @@ use Rattle.kernel_values.specs.Commands.{has_lawful_registers, payload_of}
 use Rattle.kernel_values.specs.Words.{is_name}
 use Rattle.kernel_values.specs.declared.scene.Manifest.{Manifest}
 use Rattle.kernel_values.specs.declared.script.Command.{Command}
-use Rattle.scene_reader.specs.declared.fault.SceneKind.{SceneKind}
-use Rattle.scene_reader.specs.declared.fault.SceneKind.TheVariants.{OutOfPlace, BadWords, NameTaken, TooMany}
-use Rattle.scene_reader.specs.declared.reading.OpenApp.{OpenApp}
-use Rattle.scene_reader.specs.declared.reading.OpenClient.{OpenClient}
-use Rattle.scene_reader.specs.declared.reading.Repeat.{Repeat}
-use Rattle.scene_reader.specs.declared.reading.Place.{Place}
-use Rattle.scene_reader.specs.declared.reading.Place.TheVariants as place
-use Rattle.scene_reader.specs.declared.reading.Registered.{Registered}
-use Rattle.scene_reader.specs.declared.reading.Used.{Used}
-use Rattle.scene_reader.specs.declared.reading.Reading.{Reading}
-use Rattle.scene_reader.specs.declared.words.CallWord.{CallWord}
-use Rattle.scene_reader.specs.declared.words.ClientWord.{ClientWord}
-use Rattle.scene_reader.specs.declared.words.LineWord.{LineWord}
-use Rattle.scene_reader.specs.declared.words.LineWord.TheVariants as line
-use Rattle.scene_reader.specs.declared.words.PartWord.{PartWord}
-use Rattle.scene_reader.specs.declared.words.PartWord.TheVariants as part
-use Rattle.scene_reader.specs.declared.words.ScriptWord.{ScriptWord}
-use Rattle.scene_reader.specs.declared.words.ScriptWord.TheVariants as script
-use Rattle.scene_reader.specs.Gives.{◌>>=◌}
-use Rattle.scene_reader.specs.Texts.{after_two_words}
-use Rattle.scene_reader.specs.Calls.{command_line}
-use Rattle.scene_reader.specs.ClientCalls.{client_command_line}
-use Rattle.scene_reader.specs.Reading.{after_command, with_command, app_line, extended, repeat_line, call_act, with_client_command, client_line, client_repeat_line, client_call_act, no_more, next_thread, thread_act, times_in, begun, repeat_act, repeated, after_repeat, closed, client_closed, end_act, is_in_repeat, apps_with, clients_with, manifest_act, is_named, with_ports, most_apps, new_app, with_app, described_app, named_app, app_act, most_clients, new_client, with_client, client_name, named_client, client_act, may_be_sized, queue_in, queues_act, turns_act, part_act, script_act, word_act}
+use Rattle.script_lines.specs.declared.fault.SceneKind.{SceneKind}
+use Rattle.script_lines.specs.declared.fault.SceneKind.TheVariants.{OutOfPlace, BadWords, NameTaken, TooMany}
+use Rattle.scene_lines.specs.declared.reading.OpenApp.{OpenApp}
+use Rattle.scene_lines.specs.declared.reading.OpenClient.{OpenClient}
+use Rattle.scene_lines.specs.declared.reading.Repeat.{Repeat}
+use Rattle.scene_lines.specs.declared.reading.Place.{Place}
+use Rattle.scene_lines.specs.declared.reading.Place.TheVariants as place
+use Rattle.scene_lines.specs.declared.reading.Registered.{Registered}
+use Rattle.scene_lines.specs.declared.reading.Used.{Used}
+use Rattle.scene_lines.specs.declared.reading.Reading.{Reading}
+use Rattle.script_lines.specs.declared.words.CallWord.{CallWord}
+use Rattle.script_lines.specs.declared.words.ClientWord.{ClientWord}
+use Rattle.script_lines.specs.declared.words.LineWord.{LineWord}
+use Rattle.script_lines.specs.declared.words.LineWord.TheVariants as line
+use Rattle.script_lines.specs.declared.words.PartWord.{PartWord}
+use Rattle.script_lines.specs.declared.words.PartWord.TheVariants as part
+use Rattle.script_lines.specs.declared.words.ScriptWord.{ScriptWord}
+use Rattle.script_lines.specs.declared.words.ScriptWord.TheVariants as script
+use Rattle.script_lines.specs.Gives.{◌>>=◌}
+use Rattle.script_lines.specs.Texts.{after_two_words}
+use Rattle.script_lines.specs.Calls.{command_line}
+use Rattle.script_lines.specs.ClientCalls.{client_command_line}
+use Rattle.scene_lines.specs.Reading.{after_command, with_command, app_line, extended, repeat_line, call_act, with_client_command, client_line, client_repeat_line, client_call_act, no_more, next_thread, thread_act, times_in, begun, repeat_act, repeated, after_repeat, closed, client_closed, end_act, is_in_repeat, apps_with, clients_with, manifest_act, is_named, with_ports, most_apps, new_app, with_app, described_app, named_app, app_act, most_clients, new_client, with_client, client_name, named_client, client_act, may_be_sized, queue_in, queues_act, turns_act, part_act, script_act, word_act}
 use Rattle.scene_reader.specs.Whole.{turns_in}
 use Rattle.scene_laws.proofs.Results.{after, after_that, either}
 

@@ -1,8 +1,8 @@
 -- What holds of a rule's value, where it gives one, step by step.
 use Rattle.std.proofs.Common.{Bool, true, false, cond, Result, Ok, Err}
 use Rattle.std.specs.Prelude.{IfOk}
-use Rattle.scene_reader.specs.declared.fault.SceneKind.{SceneKind}
-use Rattle.scene_reader.specs.Gives.{◌>>=◌}
+use Rattle.script_lines.specs.declared.fault.SceneKind.{SceneKind}
+use Rattle.script_lines.specs.Gives.{◌>>=◌}
 
 -- after a first step, of which nothing need be known
 pub after : {A B : Type 0} (P : B → Type 0) (rule : Result A SceneKind) (next : A → Result B SceneKind) → ((x : A) → IfOk (next x) P) → IfOk (rule >>= next) P

@@ -5,15 +5,15 @@ use Rattle.std.specs.List.{list_all}
 use Rattle.std.proofs.lemmas.List.{length-append}
 use Rattle.kernel_values.specs.SceneLaw.{SceneValue}
 use Rattle.kernel_values.specs.declared.scene.Turn.{Turn}
-use Rattle.scene_reader.specs.declared.fault.SceneKind.{SceneKind}
-use Rattle.scene_reader.specs.declared.fault.SceneKind.TheVariants.{BadByte, NoHeader}
-use Rattle.scene_reader.specs.declared.fault.SceneFault.{SceneFault}
-use Rattle.scene_reader.specs.declared.reading.Place.{Place}
-use Rattle.scene_reader.specs.declared.reading.Place.TheVariants as place
-use Rattle.scene_reader.specs.declared.reading.Reading.{Reading}
-use Rattle.scene_reader.specs.LineWords.{line_word}
-use Rattle.scene_reader.specs.Texts.{is_text_byte, words_of, is_skipped, lines_of}
-use Rattle.scene_reader.specs.Reading.{turn_word, with_turns, known, word_act, first_word, is_header, words_act, line_act}
+use Rattle.script_lines.specs.declared.fault.SceneKind.{SceneKind}
+use Rattle.script_lines.specs.declared.fault.SceneKind.TheVariants.{BadByte, NoHeader}
+use Rattle.script_lines.specs.declared.fault.SceneFault.{SceneFault}
+use Rattle.scene_lines.specs.declared.reading.Place.{Place}
+use Rattle.scene_lines.specs.declared.reading.Place.TheVariants as place
+use Rattle.scene_lines.specs.declared.reading.Reading.{Reading}
+use Rattle.script_lines.specs.LineWords.{line_word}
+use Rattle.script_lines.specs.Texts.{is_text_byte, words_of, is_skipped, lines_of}
+use Rattle.scene_lines.specs.Reading.{turn_word, with_turns, known, word_act, first_word, is_header, words_act, line_act}
 use Rattle.scene_reader.specs.Whole.{opening, open_line, fault_in, turns_in, ended, lines_act, scene_of}
 use Rattle.scene_laws.proofs.Parts.{words_few, bytes_in, lines_short}
 use Rattle.scene_laws.proofs.Results.{after, after_that, either}

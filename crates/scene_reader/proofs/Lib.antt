@@ -1,7 +1,1 @@
-pub mod Keeping
-pub mod Acts
-pub mod Cutting
 pub mod Stepping
-pub mod Bytes
-pub mod Numerals
-pub mod Repeating

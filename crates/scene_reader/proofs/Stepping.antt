@@ -2,11 +2,11 @@
 use Rattle.std.proofs.Common.{◌≡◌, ℕ, ◌+◌, ◌≤◌, Bool, true, false, ◌||◌, List, [], ◌∷◌, length, Result, Ok, Err, refl, sym, ap, ◌∙◌, arith}
 use Rattle.std.specs.List.{list_any}
 use Rattle.kernel_values.specs.SceneLaw.{SceneValue}
-use Rattle.scene_reader.specs.declared.fault.SceneKind.{SceneKind}
-use Rattle.scene_reader.specs.declared.fault.SceneFault.{SceneFault}
-use Rattle.scene_reader.specs.declared.reading.Reading.{Reading}
-use Rattle.scene_reader.specs.Texts.{lines_of}
-use Rattle.scene_reader.specs.Reading.{line_act}
+use Rattle.script_lines.specs.declared.fault.SceneKind.{SceneKind}
+use Rattle.script_lines.specs.declared.fault.SceneFault.{SceneFault}
+use Rattle.scene_lines.specs.declared.reading.Reading.{Reading}
+use Rattle.script_lines.specs.Texts.{lines_of}
+use Rattle.scene_lines.specs.Reading.{line_act}
 use Rattle.scene_reader.specs.Whole.{lines_act, ended, open_line, fault_in, closes}
 
 -- a text without a byte has no line

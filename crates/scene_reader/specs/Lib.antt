@@ -1,12 +1,1 @@
-pub mod Kinds
-pub mod Gives
-pub mod Texts
-pub mod Numbers
-pub mod Payloads
-pub mod Registers
-pub mod LineWords
-pub mod Calls
-pub mod ClientCalls
-pub mod Reading
 pub mod Whole
-pub mod Lawful

@@ -3,18 +3,18 @@ use Rattle.std.specs.Prelude.{◌≡◌, ℕ, ◌+◌, Bool, false, List, [], �
 use Rattle.std.specs.List.{list_all, list_any}
 use Rattle.kernel_values.specs.SceneLaw.{SceneValue}
 use Rattle.kernel_values.specs.declared.scene.Turn.{Turn}
-use Rattle.scene_reader.specs.declared.fault.SceneKind.{SceneKind}
-use Rattle.scene_reader.specs.declared.fault.SceneKind.TheVariants.{NoHeader, TooMany, OpenRepeat}
-use Rattle.scene_reader.specs.declared.fault.SceneKind.TheVariants as kind
-use Rattle.scene_reader.specs.declared.fault.SceneFault.{SceneFault}
-use Rattle.scene_reader.specs.declared.fault.SceneRefused.{SceneRefused}
-use Rattle.scene_reader.specs.declared.fault.SceneRefused.TheVariants as refused
-use Rattle.scene_reader.specs.declared.reading.Place.{Place}
-use Rattle.scene_reader.specs.declared.reading.Place.TheVariants as place
-use Rattle.scene_reader.specs.declared.reading.Registered.{Registered}
-use Rattle.scene_reader.specs.declared.reading.Reading.{Reading}
-use Rattle.scene_reader.specs.Texts.{lines_of, words_of, is_text_byte}
-use Rattle.scene_reader.specs.Reading.{line_act, apps_with, clients_with, queue_of}
+use Rattle.script_lines.specs.declared.fault.SceneKind.{SceneKind}
+use Rattle.script_lines.specs.declared.fault.SceneKind.TheVariants.{NoHeader, TooMany, OpenRepeat}
+use Rattle.script_lines.specs.declared.fault.SceneKind.TheVariants as kind
+use Rattle.script_lines.specs.declared.fault.SceneFault.{SceneFault}
+use Rattle.script_lines.specs.declared.fault.SceneRefused.{SceneRefused}
+use Rattle.script_lines.specs.declared.fault.SceneRefused.TheVariants as refused
+use Rattle.scene_lines.specs.declared.reading.Place.{Place}
+use Rattle.scene_lines.specs.declared.reading.Place.TheVariants as place
+use Rattle.scene_lines.specs.declared.reading.Registered.{Registered}
+use Rattle.scene_lines.specs.declared.reading.Reading.{Reading}
+use Rattle.script_lines.specs.Texts.{lines_of, words_of, is_text_byte}
+use Rattle.scene_lines.specs.Reading.{line_act, apps_with, clients_with, queue_of}
 
 abbrev pub opening : Reading
 opening = record {

@@ -4,31 +4,7 @@
 //! Reading is by lines and words, and ends at the first fault.
 #![tactic(auto)]
 
-mod app_lines;
-mod call_lines;
-mod client_call_lines;
-mod client_lines;
-mod command_lines;
-mod fault;
-mod handle_lines;
-mod last_place;
-mod limits;
-mod line_words;
-mod memory_lines;
-mod message_lines;
-mod numbers;
-mod payload;
-mod queue_lines;
-mod reading;
-mod registers;
-mod repeat_lines;
-mod repeats;
 mod scene;
-#[cfg(test)]
-mod tests;
-mod texts;
-mod turn_lines;
-mod words;
 
-pub use crate::fault::{SceneFault, SceneKind, SceneRefused};
 pub use crate::scene::read_scene;
+pub use script_lines::fault::{SceneFault, SceneKind, SceneRefused};

@@ -3,33 +3,35 @@
 ghost use Rattle.std.specs.Prelude.{◌≡◌, ◌≤◌, IfOk, IsTrue, Ok, Err, None, [], length, map};
 ghost use Rattle.std.specs.List.{list_all, list_any};
 ghost use Rattle.kernel_values.specs.SceneLaw.{IsLawfulScene};
-ghost use Rattle.scene_reader.specs.Gives.{Gives};
-ghost use Rattle.scene_reader.specs.Texts.{is_text_byte, lines_of};
-ghost use Rattle.scene_reader.specs.Lawful.{IsLawful, IsLawfulReading};
-ghost use Rattle.scene_reader.specs.declared.reading.Registered.{Registered};
-ghost use Rattle.scene_reader.specs.declared.reading.Used.{Used};
-ghost use Rattle.scene_reader.specs.declared.fault.SceneRefused.TheVariants as scene;
-ghost use Rattle.scene_reader.specs.Reading.{apps_with, clients_with, queue_of, part_act, script_act, word_act, first_word, is_header, words_act, line_act};
+ghost use Rattle.script_lines.specs.Gives.{Gives};
+ghost use Rattle.script_lines.specs.Texts.{is_text_byte, lines_of};
+ghost use Rattle.scene_lines.specs.Lawful.{IsLawful, IsLawfulReading};
+ghost use Rattle.scene_lines.specs.declared.reading.Registered.{Registered};
+ghost use Rattle.scene_lines.specs.declared.reading.Used.{Used};
+ghost use Rattle.script_lines.specs.declared.fault.SceneRefused.TheVariants as scene;
+ghost use Rattle.scene_lines.specs.Reading.{apps_with, clients_with, queue_of, part_act, script_act, word_act, first_word, is_header, words_act, line_act};
 ghost use Rattle.scene_reader.specs.Whole.{opening, open_line, is_end, closes, fault_in, ended, lines_act, scene_of, IsRefusal, IsScene};
 
-use crate::app_lines::app_act;
-use crate::client_lines::{client_act, client_call_act};
-use crate::fault::LineRefused::{self, Fault};
-use crate::fault::SceneKind::{BadByte, NoHeader, OpenRepeat, OutOfPlace, TooMany, UnknownWord};
-use crate::fault::{SceneFault, SceneKind, SceneRefused};
-use crate::last_place::settled;
-use crate::line_words::line_word;
-use crate::queue_lines::queues_act;
-use crate::reading::{Noted, Place, Reading, Registered, Used};
-use crate::repeat_lines::{call_act, end_act, repeat_act, thread_act};
-use crate::texts::{first_line, is_skipped, is_text, words_of};
-use crate::turn_lines::{turns_act, with_turns};
-use crate::words::{LineWord, PartWord, ScriptWord};
 use kernel_values::{AppList, ClientList, Items, NoMemory, Scene, TurnList};
+use scene_lines::app_lines::app_act;
+use scene_lines::client_lines::{client_act, client_call_act};
+use scene_lines::last_place::settled;
+use scene_lines::queue_lines::queues_act;
+use scene_lines::reading::{Noted, Place, Reading, Registered, Used};
+use scene_lines::repeat_lines::{call_act, end_act, repeat_act, thread_act};
+use scene_lines::turn_lines::{turns_act, with_turns};
+use script_lines::fault::LineRefused::{self, Fault};
+use script_lines::fault::SceneKind::{
+    BadByte, NoHeader, OpenRepeat, OutOfPlace, TooMany, UnknownWord,
+};
+use script_lines::fault::{SceneFault, SceneKind, SceneRefused};
+use script_lines::line_words::line_word;
+use script_lines::texts::{first_line, is_skipped, is_text, words_of};
+use script_lines::words::{LineWord, PartWord, ScriptWord};
 use std::alloc::Global;
 
 // A line that a scene is made of.
-#[tactic(auto, unfolding(crate::specs::Reading::part_act))]
+#[tactic(auto, unfolding(scene_lines::specs::Reading::part_act))]
 fn part_act(
     alloc: Global,
     before: Registered,
@@ -57,7 +59,7 @@ fn part_act(
 }
 
 // A line that scripts are made of.
-#[tactic(auto, unfolding(crate::specs::Reading::script_act))]
+#[tactic(auto, unfolding(scene_lines::specs::Reading::script_act))]
 fn script_act(
     alloc: Global,
     used: Used,
@@ -79,7 +81,7 @@ fn script_act(
 }
 
 // A line whose first word begins a line.
-#[tactic(auto, unfolding(crate::specs::Reading::word_act))]
+#[tactic(auto, unfolding(scene_lines::specs::Reading::word_act))]
 fn word_act(
     alloc: Global,
     reading: Reading,
@@ -133,7 +135,7 @@ fn is_header(words: &[&[u8]]) -> bool
 }
 
 // A line between the header and the turns.
-#[tactic(auto, unfolding(crate::specs::Reading::first_word))]
+#[tactic(auto, unfolding(scene_lines::specs::Reading::first_word))]
 fn first_word(
     alloc: Global,
     reading: Reading,
@@ -156,7 +158,7 @@ fn first_word(
 }
 
 // A line that is not skipped.
-#[tactic(auto, unfolding(crate::specs::Reading::words_act))]
+#[tactic(auto, unfolding(scene_lines::specs::Reading::words_act))]
 fn words_act(
     alloc: Global,
     reading: Reading,
@@ -213,7 +215,7 @@ fn words_act(
     }
 }
 
-#[tactic(auto, unfolding(crate::specs::Reading::line_act))]
+#[tactic(auto, unfolding(scene_lines::specs::Reading::line_act))]
 fn line_act(alloc: Global, reading: Reading, at: u32, text: &[u8]) -> Result<Reading, LineRefused>
     ensures exact { Gives (λ next. next) result (line_act reading at text.now) }
     ensures kept { IsLawfulReading reading → IfOk result IsLawfulReading }

@@ -4,7 +4,5 @@
 mod actor;
 mod numbers;
 mod registers;
-#[cfg(test)]
-mod tests;
 
 pub use actor::Actor;

@@ -9,8 +9,6 @@ mod faults;
 mod frames;
 mod names;
 mod path;
-#[cfg(test)]
-mod tests;
 mod writing;
 
 pub use crate::controls::{Control, control_of, write_control};

@@ -17,7 +17,7 @@ use Rattle.report_text.specs.Forms.{report}
 use Rattle.report_text.specs.declared.form.Form.{Form}
 use Rattle.runners.specs.Runs.{Carries, IsRunToEnd, IsRunToLimit, origin_of}
 use Rattle.scene_reader.specs.Whole.{scene_of}
-use Rattle.scene_reader.specs.declared.fault.SceneFault.{SceneFault}
+use Rattle.script_lines.specs.declared.fault.SceneFault.{SceneFault}
 use Rattle.trusty_main.specs.Answers.{AppendsSome, AppendsSomeDue, GetsDue, HasPlan, HasScene, IsEndless, IsWholeRun, Tells, Told}
 use Rattle.trusty_main.specs.Commanded.{AppendsSomeOf, GetsDueOf, HasCommand, IsDue, IsDueOfScene, IsPlain, IsReported, AppendsFrontOf, IsRunByThreads, TellsSome, ToldOf, due_of_history, form_of}
 use Rattle.trusty_main.specs.Due.{Due, due, due_of_run, due_of_scene}

@@ -11,7 +11,7 @@ use Rattle.report_text.specs.Forms.{report, report_told}
 use Rattle.report_text.specs.declared.form.Form.{Form}
 use Rattle.runners.specs.Runs.{run_logged}
 use Rattle.scene_reader.specs.Whole.{scene_of}
-use Rattle.scene_reader.specs.declared.fault.SceneFault.{SceneFault}
+use Rattle.script_lines.specs.declared.fault.SceneFault.{SceneFault}
 use Rattle.trusty_main.specs.Answers.{Tells}
 use Rattle.trusty_main.specs.Due.{Due, due, due_of_run, due_of_scene}
 use Rattle.trusty_main.specs.Texts.{too_long_text, turn_text}

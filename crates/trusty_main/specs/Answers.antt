@@ -14,7 +14,7 @@ use Rattle.kernel_values.specs.SceneLaw.{SceneValue, scripts_of}
 use Rattle.kernel_values.specs.declared.entry.Entry.{Entry}
 use Rattle.kernel_values.specs.declared.state.State.{State}
 use Rattle.outside_io.specs.Faults.{Rose}
-use Rattle.scene_reader.specs.declared.fault.SceneFault.{SceneFault}
+use Rattle.script_lines.specs.declared.fault.SceneFault.{SceneFault}
 use Rattle.trusty_main.specs.Due.{Due, due}
 use Rattle.trusty_main.specs.Plans.{outturn_of}
 use Rattle.trusty_main.specs.Texts.{usage_text}

@@ -14,7 +14,7 @@ use Rattle.kernel_values.specs.declared.entry.Entry.{Entry}
 use Rattle.report_text.specs.Forms.{report}
 use Rattle.report_text.specs.declared.form.Form.{Form}
 use Rattle.scene_reader.specs.Whole.{scene_of}
-use Rattle.scene_reader.specs.declared.fault.SceneFault.{SceneFault}
+use Rattle.script_lines.specs.declared.fault.SceneFault.{SceneFault}
 use Rattle.trusty_main.specs.Answers.{AppendsSome, Crosses, IsSequentialHistory, Tells, Told}
 use Rattle.trusty_main.specs.Due.{Due, due_of_run}
 use Rattle.trusty_main.specs.Plans.{outturn_of}

@@ -7,7 +7,7 @@ use Rattle.kernel_values.specs.SceneLaw.{SceneValue}
 use Rattle.report_text.specs.Forms.{report}
 use Rattle.report_text.specs.declared.form.Form.{Form}
 use Rattle.scene_reader.specs.Whole.{scene_of}
-use Rattle.scene_reader.specs.declared.fault.SceneFault.{SceneFault}
+use Rattle.script_lines.specs.declared.fault.SceneFault.{SceneFault}
 use Rattle.trusty_main.specs.Plans.{outturn_of}
 use Rattle.trusty_main.specs.Texts.{fault_text, turn_text, too_long_text}
 use Rattle.trusty_main.specs.declared.plan.Plan.{Plan}

@@ -1,7 +1,7 @@
 -- What the program writes besides reports.
 use Rattle.std.specs.Prelude.{ℕ, List, ◌++◌, codes, decimal}
-use Rattle.scene_reader.specs.declared.fault.SceneFault.{SceneFault}
-use Rattle.scene_reader.specs.Kinds.{kind_text}
+use Rattle.script_lines.specs.declared.fault.SceneFault.{SceneFault}
+use Rattle.script_lines.specs.Kinds.{kind_text}
 
 unfoldable pub usage_text : List ℕ
 usage_text = codes "usage: trusty COMMAND [--form FORM]\n"

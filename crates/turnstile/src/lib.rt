@@ -8,8 +8,6 @@ mod pass;
 mod rule;
 mod split;
 mod steps;
-#[cfg(test)]
-mod tests;
 mod view;
 
 pub use close::CloseRefused;

@@ -11,8 +11,6 @@ mod memory;
 mod parts;
 mod queue;
 mod rings;
-#[cfg(test)]
-mod tests;
 mod walk;
 
 pub use crate::chain::{Chain, chain_len, read_chain, write_chain};

@@ -1,6 +1,6 @@
 use Rattle.std.proofs.Common.{◌≡◌, length}
 use Rattle.std.specs.List.{list_any}
-use Rattle.scene_reader.specs.Texts.{lines_of}
+use Rattle.script_lines.specs.Texts.{lines_of}
 use Rattle.scene_reader.specs.Whole.{closes}
 use Rattle.scene_reader.proofs.scene.is_closed_in.Given as goal
 

@@ -1,6 +1,6 @@
 use Rattle.std.proofs.Common.{◌≡◌, ◌+◌, ◌≤◌, length}
-use Rattle.scene_reader.specs.Texts.{lines_of}
-use Rattle.scene_reader.specs.Lawful.{IsLawfulReading}
+use Rattle.script_lines.specs.Texts.{lines_of}
+use Rattle.scene_lines.specs.Lawful.{IsLawfulReading}
 use Rattle.scene_reader.specs.Whole.{lines_act, scene_of}
 use Rattle.scene_reader.proofs.scene.read_scene.Given as goal
 

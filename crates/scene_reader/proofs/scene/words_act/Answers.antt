@@ -1,10 +1,10 @@
 use Rattle.std.proofs.Common.{◌≡◌, ℕ, List, refl, subst, map}
 use Rattle.kernel_values.specs.declared.scene.Turn.{Turn}
-use Rattle.scene_reader.specs.declared.reading.Place.{Place}
-use Rattle.scene_reader.specs.declared.reading.Place.TheVariants as place
-use Rattle.scene_reader.specs.declared.reading.Reading.{Reading}
-use Rattle.scene_reader.specs.Gives.{Gives}
-use Rattle.scene_reader.specs.Reading.{words_act, first_word}
+use Rattle.scene_lines.specs.declared.reading.Place.{Place}
+use Rattle.scene_lines.specs.declared.reading.Place.TheVariants as place
+use Rattle.scene_lines.specs.declared.reading.Reading.{Reading}
+use Rattle.script_lines.specs.Gives.{Gives}
+use Rattle.scene_lines.specs.Reading.{words_act, first_word}
 use Rattle.scene_reader.proofs.scene.words_act.Goals as goal
 
 between : (r : Reading) (last : Place) (at : ℕ) (text : List ℕ) (words : List (List ℕ)) → (last ≡ place.Start → ⊥) → ((turns : List Turn) → last ≡ place.Turns turns → ⊥) → first_word r at text words ≡ words_act r last at text words

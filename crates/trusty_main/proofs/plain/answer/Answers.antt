@@ -1,7 +1,7 @@
 -- What is due of the input is due of the scene or the fault that was read.
 use Rattle.std.proofs.Common.{arith, subst}
 use Rattle.kernel_types.specs.Turns.{history_limit}
-use Rattle.scene_reader.specs.declared.fault.SceneFault.{SceneFault}
+use Rattle.script_lines.specs.declared.fault.SceneFault.{SceneFault}
 use Rattle.trusty_main.specs.Answers.{Tells}
 use Rattle.trusty_main.specs.Texts.{fault_text}
 use Rattle.trusty_main.specs.declared.status.Status.TheVariants as status

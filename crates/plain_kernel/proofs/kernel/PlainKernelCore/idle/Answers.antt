@@ -6,7 +6,7 @@ use Rattle.plain_kernel.specs.Alone.{core_statuses}
 use Rattle.plain_kernel.specs.Orderly.{IsOrderly}
 use Rattle.plain_kernel.specs.Steps.{whole}
 use Rattle.plain_kernel.proofs.Clientless.{idled_statuses}
-use Rattle.plain_kernel.proofs.Fewer.{idled_naming}
+use Rattle.plain_objects.proofs.Fewer.{idled_naming}
 use Rattle.plain_kernel.proofs.Orders.{idled_orderly}
 use Rattle.plain_kernel.proofs.kernel.PlainKernelCore.idle.Goals as goal
 

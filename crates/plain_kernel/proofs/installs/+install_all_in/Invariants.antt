@@ -1,5 +1,0 @@
-use Rattle.std.proofs.Common.{length}
-use Rattle.plain_kernel.proofs.installs.+install_all_in.Given as goal
-
-abbrev pub decreases-install_all_in : goal.decreases-install_all_in
-decreases-install_all_in l = length l.objects.now

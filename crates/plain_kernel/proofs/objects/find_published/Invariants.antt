@@ -1,6 +1,0 @@
-use Rattle.kernel_types.specs.Objects.{published}
-use Rattle.std.proofs.Common.{drop, ◌≡◌}
-use Rattle.plain_kernel.proofs.objects.find_published.Given as goal
-
-abbrev pub invariant-loop-object : goal.invariant-loop-object
-invariant-loop-object l = published (drop l.object-index l.objects) l.path ≡ published l.objects l.path

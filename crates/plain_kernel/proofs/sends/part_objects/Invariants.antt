@@ -1,6 +1,0 @@
-use Rattle.std.proofs.Common.{◌≡◌, map, take}
-use Rattle.plain_kernel.specs.Tests.{part_object}
-use Rattle.plain_kernel.proofs.sends.part_objects.Given as goal
-
-abbrev pub invariant-loop-handle : goal.invariant-loop-handle
-invariant-loop-handle l = l.objects ≡ map (part_object l.table) (take l.handle-index l.parts)

@@ -1,7 +1,0 @@
-use Rattle.std.proofs.Common.{◌+◌, drop, ◌≡◌}
-use Rattle.std.specs.List.{position_or_len}
-use Rattle.kernel_types.specs.Sets.{has_label}
-use Rattle.plain_kernel.proofs.sets.place_of_label.Given as goal
-
-abbrev pub invariant-loop-at : goal.invariant-loop-at
-invariant-loop-at l = l.at + position_or_len (has_label l.label) (drop l.at l.members) ≡ position_or_len (has_label l.label) l.members

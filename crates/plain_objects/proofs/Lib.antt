@@ -1,0 +1,5 @@
+pub mod Changing
+pub mod Fewer
+pub mod Numbers
+pub mod Pruning
+pub mod Rooms

@@ -1,5 +1,0 @@
-use Rattle.std.proofs.Common.{length}
-use Rattle.scene_reader.proofs.registers.+with_sets.Given as goal
-
-abbrev pub decreases-with_sets : goal.decreases-with_sets
-decreases-with_sets l = length l.names.now

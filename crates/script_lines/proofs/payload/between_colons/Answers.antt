@@ -1,0 +1,7 @@
+use Rattle.std.proofs.Common.{eqb, rules, tests}
+use Rattle.std.proofs.lemmas.Iterator.Consumers.{map_from_collect}
+use Rattle.std.proofs.lemmas.Iterator.Splits.{YieldsList-from_slice_split}
+use Rattle.script_lines.proofs.payload.between_colons.Goals as goal
+
+pub returns : goal.returns
+returns c = map_from_collect _ c.collect.ensures.ran (YieldsList-from_slice_split _ (λ b. eqb b 58) c.args.word.now (cc) (cc) (cc) (λ x b q k. search (rules, tests)))

@@ -1,0 +1,9 @@
+pub mod Calls
+pub mod ClientCalls
+pub mod Gives
+pub mod Kinds
+pub mod LineWords
+pub mod Numbers
+pub mod Payloads
+pub mod Registers
+pub mod Texts

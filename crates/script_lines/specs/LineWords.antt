@@ -1,0 +1,96 @@
+-- The words that begin a line.
+use Rattle.std.specs.Prelude.{ℕ, List, bytes_eq, codes, Option, Some, None, if◌then◌else◌}
+use Rattle.script_lines.specs.declared.words.LineWord.{LineWord}
+use Rattle.script_lines.specs.declared.words.LineWord.TheVariants as line
+use Rattle.script_lines.specs.declared.words.CallWord.{CallWord}
+use Rattle.script_lines.specs.declared.words.CallWord.TheVariants as call
+use Rattle.script_lines.specs.declared.words.ClientWord.{ClientWord}
+use Rattle.script_lines.specs.declared.words.ClientWord.TheVariants as client
+use Rattle.script_lines.specs.declared.words.PartWord.{PartWord}
+use Rattle.script_lines.specs.declared.words.PartWord.TheVariants as part
+use Rattle.script_lines.specs.declared.words.ScriptWord.{ScriptWord}
+use Rattle.script_lines.specs.declared.words.ScriptWord.TheVariants as script
+
+-- what a scene is made of
+unfoldable pub part_word : List ℕ → Option PartWord
+part_word word = if bytes_eq word (codes "queues") then Some part.Queues
+    else if bytes_eq word (codes "app") then Some part.App
+    else if bytes_eq word (codes "client") then Some part.Client
+    else if bytes_eq word (codes "turns") then Some part.Turns
+    else None
+
+-- what scripts are made of
+unfoldable pub structure_word : List ℕ → Option ScriptWord
+structure_word word = if bytes_eq word (codes "thread") then Some script.Thread
+    else if bytes_eq word (codes "repeat") then Some script.Repeat
+    else if bytes_eq word (codes "end") then Some script.End
+    else None
+
+-- ports and waits
+unfoldable pub port_word : List ℕ → Option CallWord
+port_word word = if bytes_eq word (codes "port") then Some call.Port
+    else if bytes_eq word (codes "connect") then Some call.Connect
+    else if bytes_eq word (codes "accept") then Some call.Accept
+    else if bytes_eq word (codes "wait") then Some call.Wait
+    else if bytes_eq word (codes "waitany") then Some call.WaitAny
+    else None
+
+-- messages
+unfoldable pub message_word : List ℕ → Option CallWord
+message_word word = if bytes_eq word (codes "send") then Some call.Send
+    else if bytes_eq word (codes "get") then Some call.Get
+    else if bytes_eq word (codes "read") then Some call.Read
+    else if bytes_eq word (codes "put") then Some call.Put
+    else None
+
+-- handles and their sets
+unfoldable pub handle_word : List ℕ → Option CallWord
+handle_word word = if bytes_eq word (codes "cookie") then Some call.Cookie
+    else if bytes_eq word (codes "close") then Some call.Close
+    else if bytes_eq word (codes "dup") then Some call.Dup
+    else if bytes_eq word (codes "set") then Some call.Set
+    else if bytes_eq word (codes "add") then Some call.Add
+    else if bytes_eq word (codes "del") then Some call.Del
+    else if bytes_eq word (codes "mod") then Some call.Mod
+    else None
+
+-- memory, and the end
+unfoldable pub memory_word : List ℕ → Option CallWord
+memory_word word = if bytes_eq word (codes "memref") then Some call.Memref
+    else if bytes_eq word (codes "mread") then Some call.MemRead
+    else if bytes_eq word (codes "mwrite") then Some call.MemWrite
+    else if bytes_eq word (codes "exit") then Some call.Exit
+    else None
+
+abbrev pub or_else : Option CallWord → Option CallWord → Option CallWord
+or_else (Some word) other = Some word
+or_else None other = other
+
+-- the lines of a thread's script
+unfoldable pub thread_word : List ℕ → Option CallWord
+thread_word word = or_else (port_word word) (or_else (message_word word) (or_else (handle_word word) (memory_word word)))
+
+-- the lines of a client's script
+unfoldable pub client_word : List ℕ → Option ClientWord
+client_word word = if bytes_eq word (codes "nconnect") then Some client.Connect
+    else if bytes_eq word (codes "nsend") then Some client.Send
+    else if bytes_eq word (codes "nrecv") then Some client.Recv
+    else if bytes_eq word (codes "nclose") then Some client.Close
+    else None
+
+abbrev pub or_calls : Option ScriptWord → Option CallWord → Option ClientWord → Option ScriptWord
+or_calls (Some word) thread client = Some word
+or_calls None (Some word) client = Some (script.Call word)
+or_calls None None (Some word) = Some (script.ClientCall word)
+or_calls None None None = None
+
+unfoldable pub script_word : List ℕ → Option ScriptWord
+script_word word = or_calls (structure_word word) (thread_word word) (client_word word)
+
+abbrev pub or_script : Option PartWord → Option ScriptWord → Option LineWord
+or_script (Some word) other = Some (line.Part word)
+or_script None (Some word) = Some (line.Script word)
+or_script None None = None
+
+unfoldable pub line_word : List ℕ → Option LineWord
+line_word word = if bytes_eq word (codes "scene") then Some line.Scene else or_script (part_word word) (script_word word)
