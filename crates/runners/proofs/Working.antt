@@ -132,7 +132,7 @@ no_step_stays actor (round.Stepped answered) told next is served = absurd (cc)
 no_step_stays actor round.Whole told next is served = served.0
 no_step_stays actor round.TooLong told next is served = served.0
 no_step_stays actor (round.Asks start) told next is served = served
-no_step_stays actor round.Sleeps told next is served = served
+no_step_stays actor round.Sleeps told next is served = served.0
 no_step_stays actor round.NoMemory told next is served = served
 
 pub step_ends_nothing : (r : Round) (w : View) → is_step r ≡ true → EndsBy w r

@@ -6,9 +6,11 @@ use Rattle.kernel_values.specs.declared.entry.Event.{Event}
 use Rattle.kernel_values.specs.declared.entry.Event.TheVariants as event
 use Rattle.kernel_values.specs.declared.scene.Turn.{Turn}
 use Rattle.kernel_values.specs.declared.scene.Turn.TheVariants as turn
+use Rattle.kernel_values.specs.declared.state.State.{State}
 use Rattle.kernel_types.specs.Facts.{is_at_end}
 use Rattle.kernel_types.specs.History.{Legal}
-use Rattle.kernel_types.specs.Turns.{history_limit}
+use Rattle.kernel_types.specs.Step.{device_has_work, idle_lawful}
+use Rattle.kernel_types.specs.Turns.{history_limit, takes_turn}
 use Rattle.kernel_types.specs.Whole.{FollowsScripts, IsWhole}
 use Rattle.turnstile.specs.declared.lock.Turnstile.{Turnstile}
 use Rattle.turnstile.specs.declared.pass.Pass.{Pass}
@@ -49,6 +51,16 @@ IsTurnOf actor (turn.Actor other) = other ≡ actor
 IsTurnOf actor turn.Device = ⊤
 IsTurnOf actor turn.Idle = ⊤
 
+-- the turn can be taken in the state
+abbrev pub MayTake : State → Turn → Type 0
+MayTake s (turn.Actor actor) = takes_turn s actor ≡ true
+MayTake s turn.Device = device_has_work s ≡ true
+MayTake s turn.Idle = idle_lawful s ≡ true
+
+-- none of the turns that the actor's worker takes can be taken
+abbrev pub HasNoTurn : ℕ → State → Type 0
+HasNoTurn actor s = (takes_turn s actor ≡ false) × (device_has_work s ≡ false) × (idle_lawful s ≡ false)
+
 -- the history has one entry more, which is the actor's own
 pub record AddsOwn (actor : ℕ) (history longer : List Entry) : Type 0 where
   pub entry : Entry
@@ -60,6 +72,7 @@ abbrev pub Served : ℕ → Told → Told → Round → Type 0
 Served actor told next (round.Stepped answered) = AddsOwn actor told.history next.history
 Served actor told next round.Whole = (next.history ≡ told.history) × (is_at_end (state_told told) ≡ true)
 Served actor told next round.TooLong = (next.history ≡ told.history) × (length told.history ≡ history_limit) × (is_at_end (state_told told) ≡ false)
+Served actor told next round.Sleeps = (next.history ≡ told.history) × HasNoTurn actor (state_told told)
 Served actor told next other = next.history ≡ told.history
 
 abbrev pub is_step : Round → Bool

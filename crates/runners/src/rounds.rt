@@ -1,9 +1,9 @@
 //! One turn of an actor's worker, on a run that it has for itself.
 
-ghost use Rattle.std.specs.Prelude.{◌≡◌, ◌<◌, length, IfSome};
+ghost use Rattle.std.specs.Prelude.{◌≡◌, ◌<◌, length, IfNone, IfSome};
 ghost use Rattle.kernel_types.specs.Step.{statuses};
 ghost use Rattle.runners.specs.Runs.{state_told};
-ghost use Rattle.runners.specs.Workers.{IsTurnOf, Served, is_step};
+ghost use Rattle.runners.specs.Workers.{HasNoTurn, IsTurnOf, MayTake, Served, is_step};
 
 use crate::serial_order::HISTORY_LIMIT;
 use crate::shared::Shared;
@@ -44,7 +44,9 @@ impl Round {
 // The turn that the actor's worker takes next, where there is one.
 fn turn_of<K: IpcKernel + Drop>(shared: &Shared<K>, actor: u32) -> Option<Turn>
     requires { actor < length (statuses (state_told shared.now)) }
-    ensures { IfSome result (λ turn. IsTurnOf actor turn) }
+    ensures own { IfSome result (λ turn. IsTurnOf actor turn) }
+    ensures lawful { IfSome result (MayTake (state_told shared.now)) }
+    ensures none { IfNone result (HasNoTurn actor (state_told shared.now)) }
 {
     if shared.takes_turn(actor) {
         return Some(Turn::Actor(actor));
