@@ -76,6 +76,7 @@ fn zeros(alloc: Global, count: usize) -> Result<Vec<u8>, AllocError>
 /// Reads all that is left of a source, at most `INPUT_LIMIT` bytes of it. What is kept grows
 /// with what was read.
 pub fn read_all<S: Source>(alloc: Global, source: &mut S) -> Result<Vec<u8>, ReadRefused>
+    ensures limit { INPUT_LIMIT ≡ 4194304 }
     ensures whole { IfOk result (λ bytes. ReadsWhole INPUT_LIMIT (S.left source.old) (S.left source.new) bytes.items) }
     ensures failed { IsErrOf result ReadRefused.Failed → Rose (S.faults source.old) (S.faults source.new)
         × TakesWithin INPUT_LIMIT (S.left source.old) (S.left source.new) }
