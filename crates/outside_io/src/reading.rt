@@ -81,6 +81,7 @@ fn zeros(alloc: Global, count: usize) -> Result<Vec<u8>, AllocError>
 /// with what was read.
 #[tactic(auto, using(crate::proofs::Known::within_left))]
 pub fn read_all<S: Source>(alloc: Global, source: &mut S) -> Result<Vec<u8>, ReadRefused>
+    ensures limit { INPUT_LIMIT ≡ 4194304 }
     ensures whole { IfOk result (λ bytes. ReadsWhole INPUT_LIMIT (S.left source.old) (S.left source.new) bytes.items) }
     ensures failed { IsErrOf result ReadRefused.Failed → Rose (S.faults source.old) (S.faults source.new)
         × TakesWithin INPUT_LIMIT (S.left source.old) (S.left source.new) }
