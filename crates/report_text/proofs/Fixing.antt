@@ -10,7 +10,7 @@ head_is x y xs ys e = ap (λ l. get_or {A = ℕ} l 0 0) e
 pub tail_is : (x y : ℕ) (xs ys : List ℕ) → x ∷ xs ≡ y ∷ ys → xs ≡ ys
 tail_is x y xs ys e = ap (drop 1) e
 
-word_ends : (v w a b : List ℕ) (x y : ℕ) → IsWord v → IsWord w → x ≤ blank → y ≤ blank → v ++ x ∷ a ≡ w ++ y ∷ b → (v ≡ w) × (x ∷ a ≡ y ∷ b)
+pub word_ends : (v w a b : List ℕ) (x y : ℕ) → IsWord v → IsWord w → x ≤ blank → y ≤ blank → v ++ x ∷ a ≡ w ++ y ∷ b → (v ≡ w) × (x ∷ a ≡ y ∷ b)
 word_ends [] [] a b x y p q l m e = (refl, e)
 word_ends [] (c ∷ w) a b x y p q l m e = absurd (omega (arith, head_is x c a (w ++ y ∷ b) e, l, q.0))
 word_ends (d ∷ v) [] a b x y p q l m e = absurd (omega (arith, head_is d y (v ++ x ∷ a) b e, m, p.0))

@@ -46,7 +46,8 @@ built : (t : Bool) (o : Option Stepped) (r : Stepped) → cond t o None ≡ Some
 built true o r h = h
 built false o r h = absurd (cc)
 
-stepped : (s : State) (e : Event) (entry : Entry) → step_entry s e ≡ Some entry → (r : Stepped) × (full_step s e ≡ Some r)
+-- the step that an entry is of
+pub stepped : (s : State) (e : Event) (entry : Entry) → step_entry s e ≡ Some entry → (r : Stepped) × (full_step s e ≡ Some r)
 unfolding step
 stepped s e entry h =
     let found : (r : Stepped) × (step s e ≡ Some r) = mapped (entry_of e) (step s e) entry h in (found.0, built (is_built_event e) (full_step s e) found.0 found.1)

@@ -1,4 +1,5 @@
 pub mod CallsFixed
+pub mod Compared
 pub mod Counting
 pub mod Ends
 pub mod EntriesFixed

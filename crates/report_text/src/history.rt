@@ -42,8 +42,9 @@ fn write_event(line: &mut Line, names: &NameList, event: &Event) -> Result<(), N
     }
 }
 
+/// Writes the words of an entry's line, by the entry's number.
 #[tactic(auto, unfolding(crate::specs::Forms::entry_words))]
-fn write_entry(line: &mut Line, names: &NameList, k: u64, entry: &Entry) -> Result<(), NoMemory>
+pub fn write_entry(line: &mut Line, names: &NameList, k: u64, entry: &Entry) -> Result<(), NoMemory>
     ensures told { OnOk result (line.new ≡ line.old ++ spelled (entry_words names.now k entry.now)) }
     ensures within { OnOk result (IsEventWithin entry.now.event) }
 {
@@ -83,7 +84,8 @@ fn print_entries<K: Sink>(
     Ok(())
 }
 
-fn write_head(line: &mut Line, word: &str, count: u64) -> Result<(), NoMemory>
+/// Writes the words of a line that counts, by its first word.
+pub fn write_head(line: &mut Line, word: &str, count: u64) -> Result<(), NoMemory>
     ensures { OnOk result (line.new ≡ line.old ++ spelled (word.now ∷ decimal count ∷ [])) }
 {
     line.named(word, count)

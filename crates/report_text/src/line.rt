@@ -52,6 +52,13 @@ impl Line {
         self.bytes.as_slice()
     }
 
+    /// The text of the line, without the blank before its first word.
+    pub fn text(&self) -> &[u8]
+        ensures { result.now ≡ behind_first self.now }
+    {
+        after_blank(self.bytes.as_slice())
+    }
+
     /// Ends the line.
     pub fn end(&mut self) -> Result<(), NoMemory>
         ensures { OnOk result (self.new ≡ self.old ++ line_end ∷ []) }

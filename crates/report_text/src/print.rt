@@ -21,7 +21,8 @@ use kernel_types::values::{EndFacts, NoMemory, Scene};
 use outside_io::Sink;
 use std::alloc::Global;
 
-fn write_end(line: &mut Line, end: &EndFacts) -> Result<(), NoMemory>
+/// Writes the words of the last line.
+pub fn write_end(line: &mut Line, end: &EndFacts) -> Result<(), NoMemory>
     ensures { OnOk result (line.new ≡ line.old ++ spelled (end_words end.now)) }
 {
     line.word("end")?;

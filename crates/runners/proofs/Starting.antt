@@ -61,7 +61,7 @@ few_scripts scene lawful =
 
 -- each actor at its first place
 
-get_places : (scripts : List (List Command)) (number : ℕ) (script : List Command) → slice_get scripts number ≡ Some script → slice_get (map first_place scripts) number ≡ Some (first_place script)
+pub get_places : (scripts : List (List Command)) (number : ℕ) (script : List Command) → slice_get scripts number ≡ Some script → slice_get (map first_place scripts) number ≡ Some (first_place script)
 get_places [] number script is = absurd (cc)
 get_places (first ∷ scripts) zero script is = let same : first ≡ script = cc in ap (λ (s : List Command). Some (first_place s)) same
 get_places (first ∷ scripts) (suc number) script is = get_places scripts number script is

@@ -141,7 +141,8 @@ rest_of_sound scripts places moved log longer e at sound wrote room many kept =
       short = omega (arith, longer_by, room);
     }
 
-kept_own : (scripts : List (List Command)) (places : List Place) (entries : List Entry) (entry : Entry) (number : ℕ) (place moved : Place) → Kept scripts places entries
+-- the place of the actor that made the step, put back
+pub kept_own : (scripts : List (List Command)) (places : List Place) (entries : List Entry) (entry : Entry) (number : ℕ) (place moved : Place) → Kept scripts places entries
     → slice_get places number ≡ Some place
     → ((script : List Command) → slice_get scripts number ≡ Some script → Fits number script (entries ++ entry ∷ []) moved)
     → ((other : ℕ) → (number ≡ other → ⊥) → IsNotBy other entry.event) → Kept scripts (slice_set places number moved) (entries ++ entry ∷ [])

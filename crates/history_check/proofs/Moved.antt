@@ -1,0 +1,175 @@
+-- What the actors' steps make of their places.
+use Rattle.std.proofs.Common.{◌≡◌, ◌<◌, ℕ, true, false, List, [], ◌∷◌, ◌++◌, length, Option, Some, None, Result, Ok, Err, refl, sym, ap, ◌∙◌, subst, arith, get_or}
+use Rattle.std.specs.Prelude.{slice_get, slice_set, IfOk}
+use Rattle.std.specs.Vec.{with_item}
+use Rattle.std.proofs.lemmas.Option.{slice_get-get_or, slice_get_within}
+use Rattle.kernel_values.specs.declared.call.Call.{Call}
+use Rattle.kernel_values.specs.declared.entry.ActorStatus.TheVariants as status
+use Rattle.kernel_values.specs.declared.entry.Entry.{Entry}
+use Rattle.kernel_values.specs.declared.entry.Event.{Event}
+use Rattle.kernel_values.specs.declared.entry.Event.TheVariants as event
+use Rattle.kernel_values.specs.declared.scene.Turn.{Turn}
+use Rattle.kernel_values.specs.declared.scene.Turn.TheVariants as turn
+use Rattle.kernel_values.specs.declared.script.Command.{Command}
+use Rattle.kernel_values.specs.declared.state.State.{State}
+use Rattle.kernel_types.specs.Facts.{status_at}
+use Rattle.kernel_types.specs.History.{entry_of, next_state, step_entry}
+use Rattle.kernel_types.specs.Kernel.{Did}
+use Rattle.kernel_types.specs.Scripts.{next_call}
+use Rattle.kernel_types.specs.Step.{step}
+use Rattle.std.specs.Option.{option_map as map_option}
+use Rattle.script_actor.specs.Actors.{acting}
+use Rattle.runners.specs.declared.place.Place.{Place}
+use Rattle.runners.specs.Places.{Fits, Kept}
+use Rattle.runners.proofs.Fitting.{IsNotBy, fits_anew}
+use Rattle.runners.proofs.Stepping.{kept_one, length_set, device_not_by, idle_not_by}
+use Rattle.history_check.specs.declared.actors.Actors.{Actors}
+use Rattle.history_check.specs.Standing.{CanCome, Came, IsEventOf, NoneCan, Renewed}
+use Rattle.history_check.specs.Standing.{Fits as FitsTo}
+use Rattle.history_check.specs.Steps.{Stepped, SteppedBy}
+use Rattle.history_check.proofs.Coming.{call_kept, call_only, call_refused, device_event, end_kept, end_only, end_refused, free_kept, free_only, free_refused, idle_event, no_call, place_of}
+
+pub there_is : (places : List Place) (number : ℕ) (place : Place) → number < length places → place ≡ get_or places number place → slice_get places number ≡ Some place
+there_is places number place below is = slice_get-get_or places number place below ∙ ap (λ p. Some p) (sym is)
+
+-- an event that has no step has no entry
+no_entry : (s : State) (e : Event) → step s e ≡ None → step_entry s e ≡ None
+no_entry s e none = ap (λ o. map_option (entry_of e) o) none
+
+event_of : (e : Event) (s t : State) (made remade : ℕ) (entry : Entry) → Did e s t made remade entry → step_entry s entry.event ≡ Some entry
+event_of e s t made remade entry did = ap (λ f. step_entry s f) did.event_is ∙ did.entry_is
+
+-- A new start.
+
+pub renewed : (old : Actors) (number start : ℕ) (script : List Command) (place fresh : Place) → length old.places.items ≡ length old.scripts → slice_get old.scripts number ≡ Some script
+    → place ≡ get_or old.places.items number place → place.actor.start < start → fresh ≡ record { actor = acting script start; waits = false }
+    → Renewed old (record { names = old.names; scripts = old.scripts; places = with_item old.places number fresh })
+renewed old number start script place fresh many script_is place_is later is =
+    let there : slice_get old.places.items number ≡ Some place = there_is old.places.items number place (omega (arith, many, slice_get_within old.scripts number script script_is)) place_is in
+    record {
+      same = record { names = refl; scripts = refl; many = length_set old.places.items number fresh };
+      kept = λ entries kept. kept_one old.scripts old.places.items entries number place fresh kept there
+          (λ own own_is. (let same : own ≡ script = (let both : Some own ≡ Some script = sym own_is ∙ script_is in cc) in
+          subst (λ s. Fits number s entries fresh) (sym same) (subst (λ p. Fits number script entries p) (sym is)
+          (fits_anew number start script entries place (place_of old.scripts old.places.items entries number script place kept script_is there) later))));
+    }
+
+pub renewed_none : (old : Actors) → Renewed old old
+renewed_none old = record { same = record { names = refl; scripts = refl; many = refl }; kept = λ entries kept. kept }
+
+pub after_renewal : (turn : Turn) (old mid new : Actors) (s t : State) (made remade : ℕ) (r : Option Entry) → Renewed old mid → Came turn mid new s t made remade r → Came turn old new s t made remade r
+after_renewal turn old mid new s t made remade None again none = λ entries kept other can.
+    none entries (subst (λ cs. Kept cs mid.places.items entries) (sym again.same.scripts) (again.kept entries kept)) other (subst (λ cs. CanCome cs s entries turn other) (sym again.same.scripts) can)
+after_renewal turn old mid new s t made remade (Some entry) again took = record {
+  same = record {
+    names = took.same.names ∙ again.same.names;
+    scripts = took.same.scripts ∙ again.same.scripts;
+    many = took.same.many ∙ again.same.many;
+  };
+  step_is = took.step_is;
+  state_is = took.state_is;
+  made_is = took.made_is;
+  kept = λ entries kept. subst (λ cs. Kept cs new.places.items (entries ++ entry ∷ [])) again.same.scripts
+      (took.kept entries (subst (λ cs. Kept cs mid.places.items entries) (sym again.same.scripts) (again.kept entries kept)));
+  only = λ entries kept other can. took.only entries (subst (λ cs. Kept cs mid.places.items entries) (sym again.same.scripts) (again.kept entries kept)) other
+      (subst (λ cs. CanCome cs s entries turn other) (sym again.same.scripts) can);
+}
+
+pub renewal_ok : {E : Type 0} (turn : Turn) (old mid new : Actors) (s t : State) (made remade : ℕ) (r : Result (Option Entry) E) → Renewed old mid → IfOk r (Came turn mid new s t made remade)
+    → IfOk r (Came turn old new s t made remade)
+renewal_ok turn old mid new s t made remade (Ok came) again p = after_renewal turn old mid new s t made remade came again p
+renewal_ok turn old mid new s t made remade (Err e) again p = tt
+
+-- An actor's step.
+
+module _ (old : Actors) (s : State) (number start : ℕ) (place : Place) (fit : FitsTo old s) (within : number < length old.names) (place_is : place ≡ get_or old.places.items number place)
+    (start_is : place.actor.start ≡ start) where
+  below : number < length old.scripts
+  below = omega (arith, fit.names, fit.scripts, within)
+
+  there : slice_get old.places.items number ≡ Some place
+  there = there_is old.places.items number place (omega (arith, fit.names, fit.places, within)) place_is
+
+  abbrev moved : Place → Actors
+  moved p = record { names = old.names; scripts = old.scripts; places = with_item old.places number p }
+
+  pub begin_none : place.waits ≡ false → status_at s number ≡ Some (status.Running start) → next_call place.actor.script place.actor.stand ≡ None → NoneCan (turn.Actor number) old s
+  begin_none runs status_is none = no_call old.scripts old.places.items s number start place below there runs start_is status_is none
+
+  pub begin_came : place.waits ≡ false → status_at s number ≡ Some (status.Running start) → (asked : Call) → next_call place.actor.script place.actor.stand ≡ Some asked
+      → (t : State) (made remade : ℕ) (after : Place) (r : Option Entry) → SteppedBy (event.Begin (record { 0 = number }) start asked) s t made remade place after r
+      → Came (turn.Actor number) old (moved after) s t made remade r
+  begin_came runs status_is asked next t made remade after None none =
+      call_refused old.scripts old.places.items s number start place below there runs start_is status_is asked next (no_entry s _ none)
+  begin_came runs status_is asked next t made remade after (Some entry) (did, after_is) = record {
+    same = record { names = refl; scripts = refl; many = length_set old.places.items number after };
+    step_is = event_of _ s t made remade entry did;
+    state_is = did.state_is ∙ ap (λ f. next_state s f) (sym did.event_is);
+    made_is = did.made_is;
+    kept = λ entries kept. subst (λ p. Kept old.scripts (slice_set old.places.items number p) (entries ++ entry ∷ [])) (sym after_is)
+        (call_kept old.scripts old.places.items s number start place below there runs start_is status_is asked next entry did.event_is entries kept);
+    only = call_only old.scripts old.places.items s number start place below there runs start_is status_is asked next entry did.event_is (event_of _ s t made remade entry did);
+  }
+
+  pub resume_came : place.waits ≡ true → status_at s number ≡ Some (status.Waiting start)
+      → (t : State) (made remade : ℕ) (after : Place) (r : Option Entry) → SteppedBy (event.Resume (record { 0 = number }) start) s t made remade place after r
+      → Came (turn.Actor number) old (moved after) s t made remade r
+  resume_came waits status_is t made remade after None none =
+      end_refused old.scripts old.places.items s number start place below there waits start_is status_is (no_entry s _ none)
+  resume_came waits status_is t made remade after (Some entry) (did, after_is) = record {
+    same = record { names = refl; scripts = refl; many = length_set old.places.items number after };
+    step_is = event_of _ s t made remade entry did;
+    state_is = did.state_is ∙ ap (λ f. next_state s f) (sym did.event_is);
+    made_is = did.made_is;
+    kept = λ entries kept. subst (λ p. Kept old.scripts (slice_set old.places.items number p) (entries ++ entry ∷ [])) (sym after_is)
+        (end_kept old.scripts old.places.items s number start place below there waits start_is status_is entry did.event_is entries kept);
+    only = end_only old.scripts old.places.items s number start place below there waits start_is status_is entry did.event_is (event_of _ s t made remade entry did);
+  }
+
+  pub begin_ok : {E : Type 0} → place.waits ≡ false → status_at s number ≡ Some (status.Running start) → (asked : Call) → next_call place.actor.script place.actor.stand ≡ Some asked
+      → (t : State) (made remade : ℕ) (after : Place) (r : Result (Option Entry) E) → IfOk r (SteppedBy (event.Begin (record { 0 = number }) start asked) s t made remade place after)
+      → IfOk r (Came (turn.Actor number) old (moved after) s t made remade)
+  begin_ok runs status_is asked next t made remade after (Ok came) p = begin_came runs status_is asked next t made remade after came p
+  begin_ok runs status_is asked next t made remade after (Err e) p = tt
+
+  pub resume_ok : {E : Type 0} → place.waits ≡ true → status_at s number ≡ Some (status.Waiting start)
+      → (t : State) (made remade : ℕ) (after : Place) (r : Result (Option Entry) E) → IfOk r (SteppedBy (event.Resume (record { 0 = number }) start) s t made remade place after)
+      → IfOk r (Came (turn.Actor number) old (moved after) s t made remade)
+  resume_ok waits status_is t made remade after (Ok came) p = resume_came waits status_is t made remade after came p
+  resume_ok waits status_is t made remade after (Err e) p = tt
+
+-- A step of the device, or of idle.
+
+free_came : (taken : Turn) (e : Event) (old : Actors) (s t : State) (made remade : ℕ) (r : Option Entry) → ((f : Event) → IsEventOf taken f → f ≡ e) → ((number : ℕ) → IsNotBy number e)
+    → Stepped e s t made remade r → Came taken old old s t made remade r
+free_came taken e old s t made remade None one apart none = λ entries kept other can. free_refused old.scripts s entries taken e one (no_entry s e none) other can
+free_came taken e old s t made remade (Some entry) one apart did = record {
+  same = record { names = refl; scripts = refl; many = refl };
+  step_is = event_of e s t made remade entry did;
+  state_is = did.state_is ∙ ap (λ f. next_state s f) (sym did.event_is);
+  made_is = did.made_is;
+  kept = λ entries kept. free_kept old.scripts old.places.items entries entry (λ number. subst (λ f. IsNotBy number f) (sym did.event_is) (apart number)) kept;
+  only = λ entries kept other can. free_only old.scripts s entries taken e entry one did.event_is (event_of e s t made remade entry did) other can;
+}
+
+pub device_came : (old : Actors) (s t : State) (made remade : ℕ) (r : Option Entry) → Stepped event.Device s t made remade r → Came turn.Device old old s t made remade r
+device_came old s t made remade r did = free_came turn.Device event.Device old s t made remade r device_event device_not_by did
+
+pub idle_came : (old : Actors) (s t : State) (made remade : ℕ) (r : Option Entry) → Stepped event.Idle s t made remade r → Came turn.Idle old old s t made remade r
+idle_came old s t made remade r did = free_came turn.Idle event.Idle old s t made remade r idle_event idle_not_by did
+
+device_ok : {E : Type 0} (old : Actors) (s t : State) (made remade : ℕ) (r : Result (Option Entry) E) → IfOk r (Stepped event.Device s t made remade) → IfOk r (Came turn.Device old old s t made remade)
+device_ok old s t made remade (Ok came) p = device_came old s t made remade came p
+device_ok old s t made remade (Err e) p = tt
+
+idle_ok : {E : Type 0} (old : Actors) (s t : State) (made remade : ℕ) (r : Result (Option Entry) E) → IfOk r (Stepped event.Idle s t made remade) → IfOk r (Came turn.Idle old old s t made remade)
+idle_ok old s t made remade (Ok came) p = idle_came old s t made remade came p
+idle_ok old s t made remade (Err e) p = tt
+
+-- by the turn that is taken
+
+pub device_as : {E : Type 0} (taken : Turn) → taken ≡ turn.Device → (old : Actors) (s t : State) (made remade : ℕ) (r : Result (Option Entry) E) → IfOk r (Stepped event.Device s t made remade) → IfOk r (Came taken old old s t made remade)
+device_as taken is old s t made remade r p = subst (λ u. IfOk r (Came u old old s t made remade)) (sym is) (device_ok old s t made remade r p)
+
+pub idle_as : {E : Type 0} (taken : Turn) → taken ≡ turn.Idle → (old : Actors) (s t : State) (made remade : ℕ) (r : Result (Option Entry) E) → IfOk r (Stepped event.Idle s t made remade) → IfOk r (Came taken old old s t made remade)
+idle_as taken is old s t made remade r p = subst (λ u. IfOk r (Came u old old s t made remade)) (sym is) (idle_ok old s t made remade r p)

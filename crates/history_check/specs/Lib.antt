@@ -1,0 +1,5 @@
+pub mod Verdicts
+pub mod Fronts
+pub mod Steps
+pub mod Standing
+pub mod Checking

@@ -1,0 +1,5 @@
+use Rattle.report_text.proofs.Compared.{ended_line}
+use Rattle.report_text.proofs.lines.first_line.Goals as goal
+
+pub returns : goal.returns
+returns c = ended_line c.end.result c.end.new.self c.write_head.new.line c.clear.new.self _ c.in_ok-write_head.ensures c.clear.ensures c.end.ensures
