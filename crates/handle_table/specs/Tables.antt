@@ -3,7 +3,6 @@ use Rattle.std.specs.Prelude.{ℕ, ◌+◌, ◌<◌, ◌≤◌, Bool, true, nat_
 use Rattle.kernel_values.specs.declared.state.TableEntry.{TableEntry}
 use Rattle.handle_table.specs.declared.table.DupRefused.{DupRefused}
 use Rattle.handle_table.specs.declared.table.DupRefused.TheVariants.{BadHandle, Full}
-
 -- Entries by number, the least free number, a table with one more entry, without one and with another cookie are said with the
 -- tables of applications, in kernel_types.
 pub use Rattle.kernel_types.specs.Tables.{entry_at, is_free, with_entry, installed, without, with_cookie}
