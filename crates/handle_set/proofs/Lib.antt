@@ -1,6 +1,7 @@
 pub mod Places
 pub mod Masks
 pub mod Orders
+pub mod Ordering
 pub mod ReadyLists
 pub mod Turns
 pub mod Levels

@@ -1,6 +1,7 @@
 -- The members of a set in order, after one went last or was taken out.
 use Rattle.std.proofs.Common.{◌≡◌, ℕ, zero, suc, ◌+◌, ◌<◌, ◌≤◌, ◌==◌, Bool, true, false, not, cond, ◌||◌, List, [], ◌∷◌, ◌++◌, length, map, take, drop, slice_get, Option, Some, None, refl, sym, ap, ◌∙◌, arith, eq-eqb}
 use Rattle.std.specs.List.{remove, filter, list_any, find, position_or_len}
+use Rattle.std.proofs.lemmas.List.{map-append, take-map, drop-map}
 use Rattle.handle_set.specs.declared.records.Told.{Told}
 use Rattle.handle_set.specs.Members.{AreDifferent, is_label_in, has_label, with_last, moved_last, is_ready, is_other}
 
@@ -42,6 +43,9 @@ others_removed (x ∷ xs) (suc at) told different here =
     let other : (told.label == x.label) ≡ false = differs xs at told x.label here different.0 in
     let is : (x.label == told.label) ≡ false = grind (arith) in
     rw is (ap (λ ys. x ∷ ys) (others_removed xs at told different.1 here))
+
+pub map_remove : {X Y : Type 0} (f : X → Y) (xs : List X) (at : ℕ) → map f (remove xs at) ≡ remove (map f xs) at
+map_remove f xs at = rw (map-append f (take at xs) (drop (suc at) xs), take-map f at xs, drop-map f (suc at) xs) refl
 
 pub taken_one : {X : Type 0} (xs : List X) (at : ℕ) (x : X) → slice_get xs at ≡ Some x → take 1 (drop at xs) ≡ x ∷ []
 taken_one [] at x here = absurd (cc)

@@ -3,7 +3,7 @@ use Rattle.std.proofs.Common.{◌≡◌, ℕ, zero, suc, ◌+◌, ◌-◌, ◌*�
 use Rattle.std.specs.List.{remove, filter, list_any, position_or_len, find}
 use Rattle.std.specs.Option.{option_map}
 use Rattle.std.specs.Int.{trailing_zeros, w64}
-use Rattle.std.proofs.lemmas.List.{map-append, take-map, drop-map, length-map, map-set}
+use Rattle.std.proofs.lemmas.List.{map-append, length-map, map-set}
 use Rattle.std.proofs.lemmas.List.Edits.{length-remove}
 use Rattle.std.proofs.lemmas.List.Folds.{find_at}
 use Rattle.std.proofs.lemmas.Simd.{mask_l-lt, trailing_mask_l}
@@ -13,11 +13,8 @@ use Rattle.handle_set.specs.declared.records.Told.{Told}
 use Rattle.handle_set.specs.Members.{AreDifferent, is_label_in, has_label, with_last, moved_last, is_ready, is_inner, is_other}
 use Rattle.handle_set.specs.Rows.{IsReadyList}
 use Rattle.handle_set.proofs.Masks.{first_within, pow_fits}
-use Rattle.handle_set.proofs.Orders.{taken_one, others_removed, none_at}
+use Rattle.handle_set.proofs.Orders.{map_remove, taken_one, others_removed, none_at}
 use Rattle.handle_set.proofs.Places.{set_same}
-
-map_remove : {X Y : Type 0} (f : X → Y) (xs : List X) (at : ℕ) → map f (remove xs at) ≡ remove (map f xs) at
-map_remove f xs at = rw (map-append f (take at xs) (drop (suc at) xs), take-map f at xs, drop-map f (suc at) xs) refl
 
 found_passes : {X : Type 0} (p : X → Bool) (xs : List X) (x : X) → find p xs ≡ Some x → p x ≡ true
 found_passes p [] x found = absurd (cc)

@@ -3,6 +3,7 @@
 ghost use Rattle.std.specs.Prelude.{◌≡◌, ◌<◌, ◌≤◌, ◌+◌, ◌-◌, ◌++◌, ◌∷◌, ◌^◌, [], length, IfOk, Some, slice_get};
 ghost use Rattle.std.specs.List.{remove};
 ghost use Rattle.handle_set.specs.Members.{moved_last, with_events_at, with_mask_at};
+ghost use Rattle.handle_set.specs.Slots.{blank};
 
 use crate::steps::Steps;
 use kernel_values::{Events, NoMemory};
@@ -23,21 +24,58 @@ pub struct Told {
     pub inner: bool,
 }
 
-/// Up to 64 records in order. Their room is made at once.
+// How many records a set has room for.
+const ROWS: usize = 64;
+
+// The rows of a set with no records, in order.
+const IN_TURN: [u8; ROWS] = [
+    0, 1, 2, 3, 4, 5, 6, 7, 8, 9, 10, 11, 12, 13, 14, 15, 16, 17, 18, 19, 20, 21, 22, 23, 24, 25,
+    26, 27, 28, 29, 30, 31, 32, 33, 34, 35, 36, 37, 38, 39, 40, 41, 42, 43, 44, 45, 46, 47, 48, 49,
+    50, 51, 52, 53, 54, 55, 56, 57, 58, 59, 60, 61, 62, 63,
+];
+
+/// Up to 64 records in order. Their room is made at once. A record stays in its row while it is here: where the order
+/// changes, bytes move and no record.
 #[derive(Drop)]
 pub struct Records {
     rows: Vec<Told>,
+    // The numbers of all rows: those of the records in order, then those not in use.
+    order: [u8; ROWS],
+    len: usize,
 }
 
 impl Model for Records {
-    ghost use Rattle.std.specs.Prelude.{List, ◌≤◌, vec_capacity};
+    ghost use Rattle.std.specs.Prelude.{List, take};
     ghost use Rattle.handle_set.specs.declared.records.Told.{Told};
+    ghost use Rattle.handle_set.specs.Slots.{IsOrder, in_order};
 
     ghost Value = { List Told };
 
-    ghost view = { λ r. r.rows.items };
+    ghost view = { λ r. in_order r.rows.items (take r.len r.order) };
 
-    ghost invariant = { λ r. 64 ≤ vec_capacity r.rows };
+    ghost invariant = { λ r. IsOrder r.rows.items r.order r.len };
+}
+
+// A row not in use yet.
+fn blank() -> Told
+    ensures { result ≡ blank }
+{
+    Told {
+        label: 0,
+        object: ObjKey { slot: 0, serial: 0 },
+        mask: Events(0),
+        cookie: 0,
+        events: Events(0),
+        inner: false,
+    }
+}
+
+// The number at a place goes last.
+fn move_last(order: &mut [u8], at: usize)
+    requires { at < length order.old }
+    ensures { order.new ≡ moved_last at order.old }
+{
+    order[at..].rotate_left(1);
 }
 
 impl Records {
@@ -45,15 +83,19 @@ impl Records {
     pub fn new(alloc: Global) -> Result<Records, NoMemory>
         ensures { IfOk result (λ records. records ≡ []) }
     {
-        let rows = Vec::with_capacity(alloc, 64)?;
-        Ok(Records { rows })
+        let rows = Vec::from_elem(alloc, blank(), ROWS)?;
+        Ok(Records {
+            rows,
+            order: IN_TURN,
+            len: 0,
+        })
     }
 
     /// How many there are.
     pub fn len(&self) -> usize
         ensures { result ≡ length self.now }
     {
-        self.rows.len()
+        self.len
     }
 
     /// The record at a place. This is the one call that reads records, and it counts.
@@ -64,7 +106,7 @@ impl Records {
         ensures looks { steps.new.count ≡ steps.old.count + 1 }
     {
         steps.tick();
-        self.rows[at]
+        self.rows[self.order[at] as usize]
     }
 
     /// One more record goes last. There is room for it.
@@ -72,7 +114,9 @@ impl Records {
         requires { length self.old < 64 }
         ensures { self.new ≡ self.old ++ told ∷ [] }
     {
-        self.rows.push_reserved(told);
+        let row = self.order[self.len] as usize;
+        self.rows[row] = told;
+        self.len += 1;
     }
 
     /// Takes the record at a place away.
@@ -80,7 +124,8 @@ impl Records {
         requires { at < length self.old }
         ensures { self.new ≡ remove self.old at }
     {
-        self.rows.remove(at);
+        move_last(&mut self.order[..self.len], at);
+        self.len -= 1;
     }
 
     /// The record at a place goes last.
@@ -88,8 +133,7 @@ impl Records {
         requires { at < length self.old }
         ensures { self.new ≡ moved_last at self.old }
     {
-        let told = self.rows.remove(at);
-        self.rows.push_reserved(told);
+        move_last(&mut self.order[..self.len], at);
     }
 
     /// Other events for the member at a place.
@@ -97,7 +141,8 @@ impl Records {
         requires { at < length self.old }
         ensures { self.new ≡ with_events_at at events self.old }
     {
-        self.rows[at].events = events;
+        let row = self.order[at] as usize;
+        self.rows[row].events = events;
     }
 
     /// Another mask and cookie for the member at a place.
@@ -105,8 +150,9 @@ impl Records {
         requires { at < length self.old }
         ensures { self.new ≡ with_mask_at at mask cookie self.old }
     {
-        let row = &mut self.rows[at];
-        row.mask = mask;
-        row.cookie = cookie;
+        let row = self.order[at] as usize;
+        let told = &mut self.rows[row];
+        told.mask = mask;
+        told.cookie = cookie;
     }
 }
