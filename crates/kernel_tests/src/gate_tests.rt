@@ -124,7 +124,7 @@ struct Met {
 }
 
 // The server's port by the first seat, the client's connect by the second, and a resume that is not lawful.
-fn met<R: Wait, K: IpcKernel + Drop>(
+fn seen_by_two<R: Wait, K: IpcKernel + Drop>(
     rt: &R,
     alloc: Global,
     gate: &Gate<K>,
@@ -191,7 +191,7 @@ fn two_seats<R: Wait, K: IpcKernel + Drop>(
     let Ok(mut second) = gate.split(&mut first) else {
         return Err(NoMemory);
     };
-    let met = met(rt, alloc, &gate, &mut first, &mut second)?;
+    let met = seen_by_two(rt, alloc, &gate, &mut first, &mut second)?;
     let is_third_refused = matches!(gate.split(&mut first), Err(SplitRefused::NoneLeft));
     Ok((met, is_third_refused, closed(alloc, gate, first, second)?))
 }
