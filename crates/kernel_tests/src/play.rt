@@ -138,8 +138,15 @@ impl<K: IpcKernel + Drop> Play<K> {
     /// The kernel makes the step, and answers this.
     pub fn step(&mut self, event: Event, wanted: &Answer) {
         let is_as_wanted = match self.kernel.step(event) {
-            Ok(entry) => same_answer(&entry.answer, wanted),
-            Err(_) => false,
+            Ok(entry) => {
+                let is_same = same_answer(&entry.answer, wanted);
+                drop(entry);
+                is_same
+            }
+            Err(refused) => {
+                drop(refused);
+                false
+            }
         };
         self.note(is_as_wanted);
     }
@@ -171,8 +178,15 @@ impl<K: IpcKernel + Drop> Play<K> {
     /// The kernel refuses the event for what it is.
     pub fn refuses(&mut self, event: Event) {
         let is_as_wanted = match self.kernel.step(event) {
-            Ok(_) => false,
-            Err(refused) => matches!(refused.cause, StepCause::NotMovable(_)),
+            Ok(entry) => {
+                drop(entry);
+                false
+            }
+            Err(refused) => {
+                let is_unlawful = matches!(refused.cause, StepCause::NotMovable(_));
+                drop(refused);
+                is_unlawful
+            }
         };
         self.note(is_as_wanted);
     }
