@@ -5,6 +5,8 @@
 pub mod table;
 pub mod waits;
 pub mod watch;
+#[cfg(test)]
+mod tests;
 
 pub use table::TableWatch;
 pub use waits::{WaitFor, WaitOn, Waiting, Waits};
