@@ -3,10 +3,10 @@
 #![tactic(auto)]
 
 pub mod table;
-pub mod waits;
-pub mod watch;
 #[cfg(test)]
 mod tests;
+pub mod waits;
+pub mod watch;
 
 pub use table::TableWatch;
 pub use waits::{WaitFor, WaitOn, Waiting, Waits};

@@ -1,7 +1,7 @@
-use Rattle.std.proofs.Common.{◌≡◌, ◌∙◌, ◌∷◌, ◌+◌, [], map, sym, ap, subst}
+use Rattle.std.proofs.Common.{◌∙◌, sym, ap, subst}
 use Rattle.handle_set.specs.declared.adding.Member.{Member}
 use Rattle.handle_set.specs.Adding.{told_as, with_pushed}
-use Rattle.handle_set.specs.Sets.{CanHave, id_of, is_open}
+use Rattle.handle_set.specs.Sets.{CanHave, is_open}
 use Rattle.wait_events.proofs.Filling.{can_have, ids_after, open_alone}
 use Rattle.wait_events.proofs.tests.fill.Goals as goal
 
