@@ -1,7 +1,7 @@
 -- One set's members are changed: what holds of all sets then.
-use Rattle.std.proofs.Common.{◌≡◌, ◌⊎◌, ℕ, zero, suc, ◌<◌, ◌≤◌, ◌==◌, ◌||◌, Bool, true, false, not, cond, List, [], ◌∷◌, ◌++◌, length, map, drop, set, get_or, slice_get, Option, Some, None, refl, sym, ap, ◌∙◌, inl, inr, arith, subst}
+use Rattle.std.proofs.Common.{◌≡◌, ◌⊎◌, ℕ, zero, suc, ◌<◌, ◌≤◌, ◌==◌, Bool, true, false, not, cond, List, [], ◌∷◌, ◌++◌, length, map, drop, set, get_or, slice_get, Option, Some, None, refl, sym, ap, ◌∙◌, inl, inr, arith, subst}
 use Rattle.std.specs.Option.{option_map, IfSome}
-use Rattle.std.specs.List.{find, filter, list_any, position_or_len}
+use Rattle.std.specs.List.{find, filter, position_or_len}
 use Rattle.std.proofs.lemmas.Bool.{cases_eq}
 use Rattle.std.proofs.lemmas.Bool.Decides.{nat_tests}
 use Rattle.std.proofs.lemmas.List.{map-set}
@@ -10,9 +10,9 @@ use Rattle.kernel_values.specs.declared.flags.Events.{Events}
 use Rattle.object_store.specs.declared.key.ObjKey.{ObjKey}
 use Rattle.handle_set.specs.declared.records.Told.{Told}
 use Rattle.handle_set.specs.declared.settle.OpenSet.{OpenSet}
-use Rattle.handle_set.specs.Members.{is_ready, is_other, has_object, with_events, with_mask, with_mask_at, with_last, after_pick, remasked, map_at, set_if}
-use Rattle.handle_set.specs.Sets.{has_id, has_member, is_member, id_of, has_ready, ready_in, ready_events, settled_told, settled_in, with_members, with_changed, members_changed, of_set, without_label, reported, is_open, Each, IsExactIn, IsExact, IsKnown, IsRankedIn, IsRankedBy, IsRanked, IsSettled, IsUpToDate, AreOnce, are_of}
-use Rattle.handle_set.proofs.Places.{get_set, get_other, set_same, map_same, map_each, some_same, get_some, got, get_map, get_past, map_at_is, none_passes}
+use Rattle.handle_set.specs.Members.{is_ready, is_other, has_object, with_events, with_mask, after_pick, remasked, map_at, set_if}
+use Rattle.handle_set.specs.Sets.{has_id, has_member, is_member, id_of, has_ready, ready_in, settled_told, settled_in, with_members, with_changed, members_changed, without_label, reported, is_open, Each, IsExact, IsKnown, IsRankedIn, IsRankedBy, IsRanked, IsSettled, IsUpToDate, AreOnce, are_of}
+use Rattle.handle_set.proofs.Places.{get_set, get_other, set_same, some_same, got, get_map, get_past, map_at_is, none_passes}
 use Rattle.handle_set.proofs.Levels.{now_at, open_kept, ready_other, same_ids, same_known, all_fixed, get_mapped}
 
 -- what a change of the members leaves of each: its object, and what is told of it

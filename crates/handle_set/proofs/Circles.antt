@@ -1,10 +1,10 @@
 -- Looking so many sets deep finds what is reached over memberships, since no chain has more than 8 sets.
-use Rattle.std.proofs.Common.{◌≡◌, ◌⊎◌, ◌↔◌, ℕ, zero, suc, ◌+◌, ◌-◌, ◌<◌, ◌≤◌, ◌==◌, ◌||◌, Bool, true, false, cond, List, [], ◌∷◌, ◌++◌, length, map, slice_get, Option, Some, None, refl, sym, ap, ◌∙◌, inl, inr, arith, eq-eqb, subst}
+use Rattle.std.proofs.Common.{◌≡◌, ◌⊎◌, ℕ, zero, suc, ◌+◌, ◌-◌, ◌<◌, ◌≤◌, ◌==◌, ◌||◌, Bool, true, false, List, [], ◌∷◌, ◌++◌, map, slice_get, Option, Some, None, refl, sym, ap, ◌∙◌, inl, inr, arith, eq-eqb, subst}
 use Rattle.std.specs.List.{list_any}
 use Rattle.std.proofs.lemmas.Bool.Decides.{nat_tests}
 use Rattle.kernel_types.specs.Names.{Name, root, held_by}
 use Rattle.kernel_types.specs.Objects.{set_of}
-use Rattle.kernel_types.specs.Reach.{Among, Reached, is_in, reached_by}
+use Rattle.kernel_types.specs.Reach.{Among, Reached, is_in}
 use Rattle.kernel_types.specs.Reach.Reached.{by_root, by_holder}
 use Rattle.kernel_types.specs.Sets.{is_or_contains, members_of, memberships, membership_names}
 use Rattle.kernel_types.proofs.Reaching.{marked_is_reached}
@@ -15,7 +15,7 @@ use Rattle.handle_set.specs.Chains.{object_value, objects_in, objects_of}
 use Rattle.handle_set.specs.Sets.{AreOnce, id_of, IsRankedBy}
 use Rattle.handle_set.specs.Within.{is_within}
 use Rattle.handle_set.proofs.Places.{some_same}
-use Rattle.handle_set.proofs.Standing.{Has, Holds, Stands, falls_at, has_held, held_has}
+use Rattle.handle_set.proofs.Standing.{Has, Holds, falls_at, has_held, held_has}
 
 equal : (a b : ℕ) → (a == b) ≡ true → a ≡ b
 equal a b is = grind (arith, nat_tests)

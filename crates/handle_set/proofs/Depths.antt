@@ -1,20 +1,19 @@
 -- How many sets are in one another: what the code counts, and what a new membership makes of it.
-use Rattle.std.proofs.Common.{◌≡◌, ◌⊎◌, ℕ, zero, suc, ◌+◌, ◌-◌, ◌<◌, ◌≤◌, ◌==◌, ◌||◌, not, Bool, true, false, cond, List, [], ◌∷◌, ◌++◌, length, map, max, set, drop, slice_get, Option, Some, None, refl, sym, ap, ◌∙◌, inl, inr, arith, lit<, eq-eqb, subst, tests}
-use Rattle.std.specs.Prelude.{if◌then◌else◌, nat_lt, nat_le}
+use Rattle.std.proofs.Common.{◌≡◌, ◌⊎◌, ℕ, zero, suc, ◌+◌, ◌-◌, ◌<◌, ◌≤◌, ◌==◌, ◌||◌, Bool, true, false, cond, List, [], ◌∷◌, length, map, max, set, drop, slice_get, Option, Some, None, refl, sym, ap, ◌∙◌, inl, inr, arith, lit<, eq-eqb, subst, tests}
+use Rattle.std.specs.Prelude.{nat_lt, nat_le}
 use Rattle.std.specs.List.{find, filter, list_any, position_or_len}
 use Rattle.std.specs.Option.{is_some, option_map}
 use Rattle.std.proofs.lemmas.Bool.{cases_lt}
 use Rattle.std.proofs.lemmas.List.{drop_all}
 use Rattle.std.proofs.lemmas.Bool.Decides.{nat_tests}
-use Rattle.kernel_values.specs.declared.flags.Events.{Events}
 use Rattle.kernel_values.specs.declared.state.Object.{Object}
 use Rattle.kernel_values.specs.declared.state.HandleSet.{HandleSet}
 use Rattle.kernel_values.specs.declared.state.TableEntry.{TableEntry}
 use Rattle.kernel_values.specs.declared.state.CoreState.{CoreState}
 use Rattle.kernel_types.specs.Events.{chain_limit}
-use Rattle.kernel_types.specs.Objects.{changed, memory_of, on_set, set_of}
+use Rattle.kernel_types.specs.Objects.{changed, on_set, set_of}
 use Rattle.kernel_types.specs.Reach.{is_in}
-use Rattle.kernel_types.specs.Sets.{chain_through, depth_above, depth_below, greatest, holders_of, is_label_in, is_or_contains, member_limit, member_objects, members_of, new_member, one_more_if_set, set_add, set_add_entries, set_add_member, set_add_to, with_member}
+use Rattle.kernel_types.specs.Sets.{chain_through, depth_above, depth_below, greatest, holders_of, is_label_in, is_or_contains, member_limit, member_objects, members_of, new_member, one_more_if_set, set_add, set_add_entries, set_add_to, with_member}
 use Rattle.kernel_types.specs.Tables.{entry_at, table_of}
 use Rattle.set_laws.specs.Chains.{HasShortChains, ChainFrom, IsSet, HasMember}
 use Rattle.set_laws.proofs.Counting.{counted_below}
@@ -24,8 +23,8 @@ use Rattle.handle_set.specs.declared.settle.OpenSet.{OpenSet}
 use Rattle.handle_set.specs.Adding.{with_pushed}
 use Rattle.handle_set.specs.Chains.{member_of, object_value, objects_in, objects_of, set_value}
 use Rattle.handle_set.specs.Members.{has_object}
-use Rattle.handle_set.specs.Sets.{AreOnce, id_of, has_id, has_member, with_changed, Each, IsRanked, IsRankedIn, IsHeight}
-use Rattle.handle_set.proofs.Standing.{no_memory, objects_added, set_at, set_found, told_member}
+use Rattle.handle_set.specs.Sets.{id_of, has_id, has_member, with_changed, Each, IsRanked}
+use Rattle.handle_set.proofs.Standing.{no_memory, objects_added, set_found, told_member}
 
 -- one set further
 

@@ -1,5 +1,5 @@
 -- Sets in sets, brought up to date in rising rank.
-use Rattle.std.proofs.Common.{◌≡◌, ◌≢◌, ◌⊎◌, ℕ, zero, suc, ◌+◌, ◌<◌, ◌≤◌, ◌==◌, ◌||◌, not, bit_and, Bool, true, false, cond, List, [], ◌∷◌, ◌++◌, length, map, take, drop, set, get_or, slice_get, Option, Some, None, refl, sym, ap, ◌∙◌, inl, inr, arith, subst}
+use Rattle.std.proofs.Common.{◌≡◌, ◌⊎◌, ℕ, zero, suc, ◌+◌, ◌<◌, ◌≤◌, ◌==◌, ◌||◌, not, bit_and, Bool, true, false, cond, List, [], ◌∷◌, length, map, set, slice_get, Option, Some, None, refl, sym, ap, ◌∙◌, inl, inr, arith, subst}
 use Rattle.std.specs.List.{find, list_any}
 use Rattle.std.specs.Option.{option_map}
 use Rattle.std.proofs.lemmas.Bool.{cases_lt, cases_eq}
@@ -7,12 +7,11 @@ use Rattle.std.proofs.lemmas.Bool.Decides.{nat_tests}
 use Rattle.kernel_values.specs.declared.flags.Events.{Events}
 use Rattle.handle_set.specs.declared.records.Told.{Told}
 use Rattle.handle_set.specs.declared.settle.OpenSet.{OpenSet}
-use Rattle.handle_set.specs.Members.{map_at, set_if, with_events, with_told, is_ready, is_inner}
-use Rattle.handle_set.specs.Sets.{has_id, has_ready, ready_in, ready_events, settled_told, settled_in, with_members, with_settled, set_settled, Each, IsExactIn, IsExact, IsRankedIn, IsRankedBy, IsApart, IsExactTo, IsExactBefore, with_settled_at, member_settled, HasMemberAt, IsRanked, is_open, bare_told, bare, shape, LeavesFollow, Follows, is_ready_by, IsOfSets, set_told, OnlyChanges, IsSettled, IsHeight, IsKnown, IsUpToDate, AreOnce, id_of}
+use Rattle.handle_set.specs.Members.{map_at, with_events, with_told, is_ready, is_inner}
+use Rattle.handle_set.specs.Sets.{has_id, has_ready, ready_in, ready_events, settled_told, settled_in, with_members, with_settled, set_settled, Each, IsExactIn, IsExact, IsRankedIn, IsRankedBy, IsApart, IsExactTo, IsExactBefore, with_settled_at, member_settled, HasMemberAt, IsRanked, is_open, bare_told, bare, shape, LeavesFollow, Follows, is_ready_by, IsOfSets, set_told, OnlyChanges, IsHeight, IsKnown, id_of}
 use Rattle.handle_set.proofs.Turns.{so_far, so_far_length, so_far_all, step}
-use Rattle.handle_set.proofs.Places.{get_within, get_set, get_other, set_same, map_same, map_map, map_each, some_same, get_some, got, map_at_is, map_at_same, get_map, any_same, written, got_or, get_past, none_passes}
-use Rattle.std.proofs.lemmas.List.{set-set, map-set, take_at, drop_all}
-use Rattle.std.proofs.lemmas.Grind.{common_steps}
+use Rattle.handle_set.proofs.Places.{get_set, get_other, set_same, map_same, map_map, map_each, some_same, get_some, map_at_is, map_at_same, get_map, any_same, none_passes}
+use Rattle.std.proofs.lemmas.List.{set-set, map-set}
 
 -- a set that keeps its number says nothing of others
 

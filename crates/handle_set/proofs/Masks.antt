@@ -1,14 +1,13 @@
 -- The bits of a list of marks, after an edit of the list.
-use Rattle.std.proofs.Common.{◌≡◌, ℕ, zero, suc, ◌+◌, ◌-◌, ◌*◌, ◌/◌, ◌%◌, ◌^◌, ◌<◌, ◌≤◌, ◌==◌, Bool, true, false, not, cond, ◌||◌, ◌≢◌, bit_and, bit_or, List, [], ◌∷◌, ◌++◌, length, map, take, drop, get_or, slice_get, Option, Some, None, refl, sym, ap, ◌∙◌, arith, length-append, length-set, set, lit<, inl, inr}
+use Rattle.std.proofs.Common.{◌≡◌, ℕ, zero, suc, ◌+◌, ◌*◌, ◌/◌, ◌%◌, ◌^◌, ◌<◌, ◌≤◌, ◌==◌, Bool, true, false, not, cond, ◌||◌, ◌≢◌, bit_and, bit_or, List, [], ◌∷◌, ◌++◌, length, map, take, drop, get_or, Some, None, refl, sym, ap, ◌∙◌, arith, length-set, set, lit<, inl, inr}
 use Rattle.std.specs.List.{remove, list_any, position_or_len, find}
-use Rattle.std.proofs.lemmas.List.{map-append, take-map, drop-map, take-append-drop, length-take-le, drop_more, get_or-set_same, get_or-set_other}
-use Rattle.std.proofs.lemmas.List.Folds.{find_at}
+use Rattle.std.proofs.lemmas.List.{length-take-le, get_or-set_same, get_or-set_other}
 use Rattle.std.proofs.lemmas.Nat.{mod-mul-add, div-mul-add, and_le_l}
 use Rattle.std.proofs.lemmas.Bool.{cases_lt}
 use Rattle.std.proofs.lemmas.Nat.Bits.{bit_at_set_same, bit_at_set_other, bit_at_clear_same, bit_at_clear_other, same_from_bits, same_from_bits_below}
-use Rattle.std.proofs.lemmas.Simd.{mask_l-lt, trailing_mask_l, bit_mask_l}
+use Rattle.std.proofs.lemmas.Simd.{mask_l-lt, bit_mask_l}
 use Rattle.std.proofs.Math.Nat.{two-pow-succ, pow-le-pow_right, one-le-pow}
-use Rattle.std.specs.Int.{trailing_zeros, w64, bit_at, bit_not}
+use Rattle.std.specs.Int.{w64, bit_at, bit_not}
 use Rattle.std.proofs.lemmas.Bool.Decides.{nat_tests}
 use lib.Lanes.{mask_l}
 

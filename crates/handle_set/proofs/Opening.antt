@@ -1,14 +1,13 @@
 -- Sets are opened and closed.
-use Rattle.std.proofs.Common.{◌≡◌, ◌⊎◌, ℕ, zero, suc, ◌+◌, ◌<◌, ◌≤◌, ◌==◌, ◌||◌, Bool, true, false, not, cond, List, [], ◌∷◌, ◌++◌, length, map, slice_get, Option, Some, None, refl, sym, ap, ◌∙◌, inl, inr, arith, subst, eq-eqb}
+use Rattle.std.proofs.Common.{◌≡◌, ℕ, zero, suc, ◌+◌, ◌<◌, ◌≤◌, ◌==◌, ◌||◌, Bool, true, false, not, cond, List, [], ◌∷◌, ◌++◌, length, map, slice_get, Some, refl, sym, ap, ◌∙◌, arith, subst, eq-eqb}
 use Rattle.std.specs.Option.{option_map}
 use Rattle.std.specs.List.{find, filter, list_any, position_or_len, remove}
 use Rattle.std.proofs.lemmas.Bool.Decides.{nat_tests}
 use Rattle.std.proofs.lemmas.List.{map-append}
-use Rattle.handle_set.specs.declared.records.Told.{Told}
 use Rattle.handle_set.specs.declared.settle.OpenSet.{OpenSet}
 use Rattle.handle_set.specs.Members.{has_object}
-use Rattle.handle_set.specs.Sets.{has_id, has_member, has_ready, is_member, is_number, id_of, is_open, is_other_set, ready_in, settled_told, settled_in, empty_set, Each, IsExactIn, IsExact, IsKnown, IsRankedIn, IsRankedBy, IsRanked, IsSettled, AreOnce, are_of}
-use Rattle.handle_set.proofs.Places.{map_same, none_passes, some_same}
+use Rattle.handle_set.specs.Sets.{has_id, has_member, has_ready, is_member, is_number, id_of, is_open, is_other_set, ready_in, settled_told, settled_in, empty_set, Each, IsExactIn, IsRankedIn, IsRankedBy, IsSettled, AreOnce}
+use Rattle.handle_set.proofs.Places.{none_passes, some_same}
 use Rattle.handle_set.proofs.Levels.{all_fixed, get_mapped}
 
 pub none_settled : IsSettled []

@@ -1,8 +1,8 @@
 -- A member is added that nothing speaks against.
-use Rattle.std.proofs.Common.{◌≡◌, ◌⊎◌, ℕ, zero, suc, ◌+◌, ◌<◌, ◌≤◌, ◌==◌, ◌||◌, Bool, true, false, not, cond, List, [], ◌∷◌, ◌++◌, length, map, set, get_or, slice_get, Option, Some, None, refl, sym, ap, ◌∙◌, inl, inr, arith, subst, tests}
-use Rattle.std.specs.Prelude.{if◌then◌else◌, nat_lt, nat_le}
-use Rattle.std.specs.Option.{option_map, is_some, IfSome}
-use Rattle.std.specs.List.{find, list_any, position_or_len}
+use Rattle.std.proofs.Common.{◌≡◌, ℕ, suc, ◌+◌, ◌<◌, ◌==◌, ◌||◌, Bool, true, false, not, cond, List, [], ◌∷◌, length, map, set, get_or, slice_get, Option, Some, None, refl, sym, ap, ◌∙◌, arith, subst, tests}
+use Rattle.std.specs.Prelude.{nat_lt, nat_le}
+use Rattle.std.specs.Option.{IfSome}
+use Rattle.std.specs.List.{find, position_or_len}
 use Rattle.std.proofs.lemmas.Bool.Decides.{nat_tests}
 use Rattle.std.proofs.lemmas.List.{length-map}
 use Rattle.kernel_values.specs.declared.flags.Events.{Events}
@@ -12,15 +12,14 @@ use Rattle.kernel_types.specs.Objects.{set_of}
 use Rattle.kernel_types.specs.Sets.{chain_through, is_label_in, is_or_contains, member_limit, set_add}
 use Rattle.set_laws.specs.Chains.{HasShortChains}
 use Rattle.handle_set.specs.declared.adding.Member.{Member}
-use Rattle.handle_set.specs.declared.adding.SetRefused.{SetRefused}
 use Rattle.handle_set.specs.declared.adding.SetRefused.TheVariants as refused
 use Rattle.handle_set.specs.declared.records.Told.{Told}
 use Rattle.handle_set.specs.declared.settle.OpenSet.{OpenSet}
 use Rattle.handle_set.specs.Adding.{add_refusal, members_in, told_as, with_added, with_pushed}
 use Rattle.handle_set.specs.Chains.{member_of, objects_of, set_value}
-use Rattle.handle_set.specs.Sets.{AreOnce, CanHave, Each, IsExact, IsKnown, IsRanked, IsSettled, IsUpToDate, are_of, has_id, has_labelled, has_ready, id_of, is_open, ready_in, members_changed, settled_in, with_changed, with_members}
+use Rattle.handle_set.specs.Sets.{AreOnce, CanHave, IsExact, IsKnown, IsRanked, IsSettled, IsUpToDate, are_of, has_id, has_labelled, has_ready, id_of, is_open, ready_in, settled_in, with_changed, with_members}
 use Rattle.handle_set.proofs.Places.{get_set, got}
-use Rattle.handle_set.proofs.Levels.{get_mapped, found_open}
+use Rattle.handle_set.proofs.Levels.{get_mapped}
 use Rattle.handle_set.proofs.Changing.{brought_up, changed_exact, changed_ids, changed_is, changed_known, each_push, found, found_id, ready_kept, told_of}
 use Rattle.handle_set.proofs.Depths.{short_ranked, stays_short}
 use Rattle.handle_set.proofs.Standing.{ranked_short, set_at}

@@ -1,18 +1,18 @@
 -- What the bits of a set say, before and after its first ready member goes last.
-use Rattle.std.proofs.Common.{◌≡◌, ℕ, zero, suc, ◌+◌, ◌-◌, ◌*◌, ◌/◌, ◌%◌, ◌^◌, ◌<◌, ◌≤◌, ◌==◌, Bool, true, false, not, cond, ◌||◌, List, [], ◌∷◌, ◌++◌, length, map, take, drop, get_or, slice_get, Option, Some, None, refl, sym, ap, ◌∙◌, arith, length-append, length-take, set, length-set}
+use Rattle.std.proofs.Common.{◌≡◌, ℕ, zero, suc, ◌+◌, ◌<◌, ◌≤◌, ◌==◌, Bool, true, false, not, cond, ◌||◌, List, [], ◌∷◌, ◌++◌, length, map, slice_get, Option, Some, None, refl, sym, ap, ◌∙◌, arith, length-append, set, length-set}
 use Rattle.std.specs.List.{remove, filter, list_any, position_or_len, find}
 use Rattle.std.specs.Option.{option_map}
 use Rattle.std.specs.Int.{trailing_zeros, w64}
 use Rattle.std.proofs.lemmas.List.{map-append, length-map, map-set}
 use Rattle.std.proofs.lemmas.List.Edits.{length-remove}
 use Rattle.std.proofs.lemmas.List.Folds.{find_at}
-use Rattle.std.proofs.lemmas.Simd.{mask_l-lt, trailing_mask_l}
+use Rattle.std.proofs.lemmas.Simd.{trailing_mask_l}
 use Rattle.std.proofs.lemmas.Bool.Decides.{nat_tests}
 use lib.Lanes.{mask_l}
 use Rattle.handle_set.specs.declared.records.Told.{Told}
 use Rattle.handle_set.specs.Members.{AreDifferent, is_label_in, has_label, with_last, moved_last, is_ready, is_inner, is_other}
 use Rattle.handle_set.specs.Rows.{IsReadyList}
-use Rattle.handle_set.proofs.Masks.{first_within, pow_fits}
+use Rattle.handle_set.proofs.Masks.{first_within}
 use Rattle.handle_set.proofs.Orders.{map_remove, taken_one, others_removed, none_at}
 use Rattle.handle_set.proofs.Places.{set_same}
 

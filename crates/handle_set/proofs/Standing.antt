@@ -1,11 +1,10 @@
 -- The open sets as sets of the kernel's state.
-use Rattle.std.proofs.Common.{◌≡◌, ◌⊎◌, ℕ, zero, suc, ◌+◌, ◌<◌, ◌≤◌, ◌==◌, ◌||◌, not, Bool, true, false, cond, List, [], ◌∷◌, ◌++◌, length, map, set, slice_get, Option, Some, None, refl, sym, ap, ◌∙◌, inl, inr, arith, lit<, eq-eqb, subst}
-use Rattle.std.specs.List.{find, list_any, position_or_len}
+use Rattle.std.proofs.Common.{◌≡◌, ℕ, zero, suc, ◌+◌, ◌<◌, ◌≤◌, ◌==◌, ◌||◌, not, Bool, true, false, cond, List, [], ◌∷◌, length, map, set, slice_get, Option, Some, None, refl, sym, ap, ◌∙◌, arith, eq-eqb, subst}
+use Rattle.std.specs.List.{find, position_or_len}
 use Rattle.std.specs.Option.{is_some, option_map}
 use Rattle.std.proofs.lemmas.Bool.Decides.{nat_tests}
 use Rattle.std.proofs.lemmas.List.{map-append, map-set}
 use Rattle.kernel_values.specs.declared.state.Object.{Object}
-use Rattle.kernel_values.specs.declared.state.HandleSet.{HandleSet}
 use Rattle.kernel_values.specs.declared.state.Member.{Member}
 use Rattle.kernel_values.specs.declared.state.Body.TheVariants as body
 use Rattle.kernel_types.specs.Objects.{set_if, as_set, as_memory, changed, memory_of, on_body, on_set, place_of, set_of}
@@ -17,7 +16,7 @@ use Rattle.handle_set.specs.declared.records.Told.{Told}
 use Rattle.handle_set.specs.declared.settle.OpenSet.{OpenSet}
 use Rattle.handle_set.specs.Adding.{with_pushed}
 use Rattle.handle_set.specs.Chains.{member_of, object_value, objects_in, objects_of, set_value}
-use Rattle.handle_set.specs.Sets.{AreOnce, has_id, id_of, is_number, is_open, with_changed, Each, IsHeight, IsRankedBy}
+use Rattle.handle_set.specs.Sets.{AreOnce, has_id, id_of, is_number, with_changed, IsHeight, IsRankedBy}
 use Rattle.handle_set.proofs.Places.{get_map, none_passes, some_same}
 
 flip : (a b : ℕ) → (a == b) ≡ false → (b == a) ≡ false

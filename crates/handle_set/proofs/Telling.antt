@@ -1,6 +1,6 @@
 -- An object is told in all sets: what holds of all sets then.
-use Rattle.std.proofs.Common.{◌≡◌, ◌⊎◌, ℕ, zero, suc, ◌<◌, ◌≤◌, ◌==◌, ◌||◌, Bool, true, false, not, cond, List, [], ◌∷◌, length, map, set, slice_get, Option, Some, None, refl, sym, ap, ◌∙◌, arith, subst}
-use Rattle.std.specs.Option.{option_map, IfSome}
+use Rattle.std.proofs.Common.{◌≡◌, ℕ, ◌==◌, Bool, true, false, cond, List, [], ◌∷◌, map, set, slice_get, Some, refl, sym, ap, ◌∙◌, arith, subst}
+use Rattle.std.specs.Option.{option_map}
 use Rattle.std.specs.List.{find}
 use Rattle.std.proofs.lemmas.List.{map-set}
 use Rattle.std.proofs.lemmas.Bool.Decides.{nat_tests}
@@ -8,8 +8,8 @@ use Rattle.kernel_values.specs.declared.flags.Events.{Events}
 use Rattle.handle_set.specs.declared.records.Told.{Told}
 use Rattle.handle_set.specs.declared.settle.OpenSet.{OpenSet}
 use Rattle.handle_set.specs.Members.{map_at, with_events, with_told}
-use Rattle.handle_set.specs.Sets.{has_id, has_ready, ready_in, settled_told, settled_in, id_of, is_open, Each, IsExact, IsKnown, IsRankedBy, IsSettled, IsUpToDate, AreOnce, set_told, are_of, CanHave}
-use Rattle.handle_set.proofs.Places.{get_map, get_some, get_past, map_at_is, map_each, set_same, some_same}
+use Rattle.handle_set.specs.Sets.{has_id, has_ready, ready_in, settled_told, settled_in, id_of, is_open, Each, IsExact, IsKnown, IsSettled, IsUpToDate, AreOnce, set_told, are_of, CanHave}
+use Rattle.handle_set.proofs.Places.{get_map, map_at_is, map_each, set_same}
 use Rattle.handle_set.proofs.Levels.{all_fixed, get_mapped, told_object, told_open, told_ranked, same_ranked}
 use Rattle.handle_set.proofs.Changing.{told_of, of_told, brought_up}
 

@@ -1,6 +1,5 @@
 -- The open sets as sets of the kernel's state: how they stand in one another is said there.
-use Rattle.std.specs.Prelude.{ℕ, Bool, ◌==◌, ◌||◌, zero, suc, List, map, Option, Some, None}
-use Rattle.std.specs.List.{list_any}
+use Rattle.std.specs.Prelude.{ℕ, List, map}
 use Rattle.kernel_values.specs.declared.state.Object.{Object}
 use Rattle.kernel_values.specs.declared.state.Body.TheVariants as body
 use Rattle.kernel_values.specs.declared.state.HandleSet.{HandleSet}

@@ -1,5 +1,5 @@
 -- The members of a set, each with the events last told for its object.
-use Rattle.std.specs.Prelude.{◌≡◌, ℕ, Bool, true, false, not, ◌==◌, ◌+◌, List, [], ◌∷◌, ◌++◌, take, drop, Option, Some, None, bit_and, slice_get, slice_set, if◌then◌else◌}
+use Rattle.std.specs.Prelude.{◌≡◌, ℕ, Bool, false, not, ◌==◌, List, [], ◌∷◌, ◌++◌, take, drop, Option, Some, None, bit_and, slice_get, slice_set, if◌then◌else◌}
 use Rattle.std.specs.List.{remove, filter, list_any, position_or_len}
 use Rattle.std.specs.Option.{option_map}
 use Rattle.kernel_values.specs.declared.flags.Events.{Events}

@@ -1,6 +1,6 @@
 -- All open sets. A member may be a set itself; the events told for it are then READY where that set has
 -- a ready member, and none otherwise.
-use Rattle.std.specs.Prelude.{◌≡◌, ◌≢◌, ◌<◌, ◌≤◌, ℕ, Bool, true, false, not, ◌==◌, ◌+◌, List, [], ◌∷◌, ◌++◌, length, map, take, drop, Option, Some, None, slice_get, slice_set, bit_and, if◌then◌else◌}
+use Rattle.std.specs.Prelude.{◌≡◌, ◌<◌, ◌≤◌, ℕ, Bool, true, false, not, ◌==◌, List, [], ◌∷◌, length, map, drop, Option, Some, None, slice_get, bit_and}
 use Rattle.std.specs.List.{list_any, find, filter, position_or_len}
 use Rattle.std.specs.Option.{option_map, IfSome}
 use Rattle.object_store.specs.declared.key.ObjKey.{ObjKey}

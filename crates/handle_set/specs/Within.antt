@@ -1,7 +1,6 @@
 -- Whether one set contains another, looked for so many sets deep. No public clause cites this file.
-use Rattle.std.specs.Prelude.{◌≡◌, ◌<◌, ℕ, Bool, ◌==◌, ◌||◌, zero, suc, List, map, slice_get, Some}
-use Rattle.std.specs.List.{list_any, find}
-use Rattle.std.specs.Option.{IfSome}
+use Rattle.std.specs.Prelude.{ℕ, Bool, ◌==◌, ◌||◌, zero, suc, List}
+use Rattle.std.specs.List.{list_any}
 use Rattle.kernel_values.specs.declared.state.Object.{Object}
 use Rattle.kernel_types.specs.Objects.{set_of}
 use Rattle.kernel_types.specs.Sets.{members_of}

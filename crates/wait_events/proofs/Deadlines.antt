@@ -1,5 +1,5 @@
 -- The least deadline of all waits.
-use Rattle.std.proofs.Common.{◌≡◌, ◌∙◌, ◌<◌, ◌≤◌, ◌+◌, ℕ, zero, suc, List, [], ◌∷◌, Option, Some, None, length, map, drop, set, slice_get, refl, sym, ap, subst, arith}
+use Rattle.std.proofs.Common.{◌≡◌, ◌∙◌, ◌≤◌, ℕ, zero, suc, List, [], ◌∷◌, Option, Some, None, length, map, drop, set, slice_get, refl, sym, ap, arith}
 use Rattle.std.specs.Option.{option_map}
 use Rattle.kernel_types.specs.CoreStep.{sooner}
 use Rattle.handle_set.proofs.Places.{some_same}

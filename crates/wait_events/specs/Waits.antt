@@ -1,11 +1,10 @@
 -- All waits, the places of all tables, and the clock.
-use Rattle.std.specs.Prelude.{◌≡◌, ◌<◌, ℕ, Bool, true, false, not, ◌==◌, ◌||◌, ◌+◌, drop, nat_le, List, [], ◌∷◌, map, slice_get, slice_set, Option, Some, None, if◌then◌else◌}
+use Rattle.std.specs.Prelude.{ℕ, Bool, true, false, ◌||◌, ◌+◌, drop, List, [], ◌∷◌, map, slice_get, slice_set, Option, Some, None, if◌then◌else◌}
 use Rattle.std.specs.List.{list_any, position_or_len}
-use Rattle.std.specs.Option.{option_map, option_or, IfSome}
+use Rattle.std.specs.Option.{option_map, option_or}
 use Rattle.kernel_values.specs.declared.flags.Events.{Events}
 use Rattle.kernel_types.specs.CoreStep.{sooner}
 use Rattle.kernel_types.specs.Waits.{is_due}
-use Rattle.object_store.specs.declared.key.ObjKey.{ObjKey}
 use Rattle.handle_set.specs.declared.settle.OpenSet.{OpenSet}
 use Rattle.wait_events.specs.declared.watch.Watch.{Watch}
 use Rattle.wait_events.specs.declared.waits.WaitFor.{WaitFor}

@@ -1,5 +1,5 @@
 -- What is told of watched objects.
-use Rattle.std.specs.Prelude.{◌≡◌, ℕ, Bool, not, ◌==◌, List, Option, Some, None, if◌then◌else◌}
+use Rattle.std.specs.Prelude.{ℕ, Bool, not, ◌==◌, List, Option, Some, None, if◌then◌else◌}
 use Rattle.kernel_values.specs.declared.flags.Events.{Events}
 use Rattle.object_store.specs.declared.key.ObjKey.{ObjKey}
 use Rattle.handle_set.specs.declared.settle.OpenSet.{OpenSet}

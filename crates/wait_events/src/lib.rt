@@ -3,6 +3,8 @@
 #![tactic(auto)]
 
 pub mod table;
+#[cfg(test)]
+mod tests;
 pub mod waits;
 pub mod watch;
 

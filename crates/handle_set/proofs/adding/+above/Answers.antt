@@ -1,9 +1,7 @@
-use Rattle.std.proofs.Common.{◌≡◌, ◌∙◌, ◌+◌, ◌-◌, ◌<◌, ◌≤◌, ℕ, zero, suc, Bool, true, false, cond, List, length, map, max, drop, refl, sym, ap, arith, add-one}
+use Rattle.std.proofs.Common.{◌≡◌, ◌∙◌, ◌+◌, ◌<◌, ℕ, zero, suc, List, length, map, refl, sym, ap, arith, add-one}
 use Rattle.kernel_values.specs.declared.state.Object.{Object}
 use Rattle.kernel_types.specs.Sets.{depth_above, greatest}
-use Rattle.handle_set.specs.declared.settle.OpenSet.{OpenSet}
 use Rattle.handle_set.specs.Chains.{objects_of}
-use Rattle.handle_set.specs.Sets.{has_member}
 use Rattle.handle_set.proofs.Places.{get_some}
 use Rattle.handle_set.proofs.Depths.{above_less, holder_ids, holder_step, holders_is, no_holders}
 use Rattle.handle_set.proofs.adding.+above.Goals as goal

@@ -1,7 +1,6 @@
-use Rattle.std.proofs.Common.{◌≡◌, ◌∙◌, ◌<◌, ◌≤◌, ℕ, List, Bool, length, Some, None, sym, ap, refl, arith}
+use Rattle.std.proofs.Common.{◌∙◌, length, sym, ap}
 use Rattle.handle_set.specs.declared.settle.OpenSet.{OpenSet}
 use Rattle.std.specs.Prelude.{nat_le}
-use Rattle.std.proofs.lemmas.Bool.Decides.{nat_tests}
 use Rattle.kernel_types.specs.Sets.{member_limit}
 use Rattle.handle_set.specs.Adding.{members_in}
 use Rattle.handle_set.proofs.Places.{got}

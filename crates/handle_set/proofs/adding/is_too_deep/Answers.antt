@@ -1,7 +1,5 @@
-use Rattle.std.proofs.Common.{◌≡◌, ◌∙◌, ◌<◌, ◌≤◌, ◌+◌, ℕ, List, Some, None, sym, ap, refl, arith, tests}
+use Rattle.std.proofs.Common.{◌≡◌, ◌∙◌, ◌+◌, ℕ, List, sym, ap}
 use Rattle.std.specs.Prelude.{nat_lt}
-use Rattle.std.specs.List.{find}
-use Rattle.std.proofs.lemmas.Bool.Decides.{nat_tests}
 use Rattle.kernel_values.specs.declared.state.Object.{Object}
 use Rattle.kernel_types.specs.Events.{chain_limit}
 use Rattle.kernel_types.specs.Sets.{chain_through, depth_above, depth_below}

@@ -1,4 +1,4 @@
-use Rattle.std.proofs.Common.{◌≡◌, ◌<◌, length, subst, sym}
+use Rattle.std.proofs.Common.{◌<◌, length, subst, sym}
 use Rattle.handle_set.proofs.Pushing.{open_within}
 use Rattle.handle_set.proofs.adding.open_place.Goals as goal
 

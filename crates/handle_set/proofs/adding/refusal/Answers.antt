@@ -1,6 +1,4 @@
-use Rattle.std.proofs.Common.{◌≡◌, ◌∙◌, Bool, true, false, sym, ap, refl}
-use Rattle.kernel_types.specs.Sets.{is_or_contains}
-use Rattle.handle_set.specs.Chains.{objects_of}
+use Rattle.std.proofs.Common.{◌∙◌, sym, refl}
 use Rattle.handle_set.proofs.Circles.{contains_is}
 use Rattle.handle_set.proofs.adding.refusal.Goals as goal
 

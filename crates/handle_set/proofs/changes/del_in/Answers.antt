@@ -1,6 +1,6 @@
-use Rattle.std.proofs.Common.{◌≡◌, ◌∙◌, ◌<◌, ◌≤◌, ℕ, List, Bool, length, drop, Some, None, sym, ap, subst, refl}
+use Rattle.std.proofs.Common.{◌∙◌, sym, ap, subst}
 use Rattle.handle_set.specs.declared.settle.OpenSet.{OpenSet}
-use Rattle.handle_set.specs.Sets.{has_id, IsUpToDate, of_set, labelled, without_label, members_changed}
+use Rattle.handle_set.specs.Sets.{IsUpToDate, of_set, labelled, without_label, members_changed}
 use Rattle.handle_set.proofs.Places.{got}
 use Rattle.handle_set.proofs.Changing.{past, unchanged, rests, found, whole, left_ranked, left_known, left_others, left_settled, deleting_fewer}
 use Rattle.handle_set.proofs.changes.del_in.Goals as goal

@@ -1,4 +1,4 @@
-use Rattle.std.proofs.Common.{◌≡◌, ◌∙◌, ◌<◌, ◌≤◌, ℕ, List, Bool, length, drop, Some, None, sym, ap, subst, refl}
+use Rattle.std.proofs.Common.{◌∙◌, drop, sym, ap}
 use Rattle.handle_set.specs.declared.settle.OpenSet.{OpenSet}
 use Rattle.handle_set.specs.Sets.{of_set, first_object}
 use Rattle.handle_set.proofs.Places.{got}

@@ -1,7 +1,7 @@
-use Rattle.std.proofs.Common.{◌≡◌, ◌∙◌, ◌<◌, ◌≤◌, ℕ, List, Bool, length, drop, Some, None, sym, ap, subst, refl}
+use Rattle.std.proofs.Common.{◌∙◌, sym, ap, subst}
 use Rattle.handle_set.specs.declared.settle.OpenSet.{OpenSet}
 use Rattle.handle_set.specs.Members.{is_label_in}
-use Rattle.handle_set.specs.Sets.{has_id, IsUpToDate, has_labelled, remasked_at, members_changed}
+use Rattle.handle_set.specs.Sets.{IsUpToDate, has_labelled, remasked_at, members_changed}
 use Rattle.handle_set.proofs.Places.{got}
 use Rattle.handle_set.proofs.Changing.{past, unchanged, rests, found, whole, left_ranked, left_known, left_others, left_settled, masking_fewer}
 use Rattle.handle_set.proofs.changes.modify_in.Goals as goal

@@ -1,6 +1,5 @@
-use Rattle.std.proofs.Common.{◌≡◌, ◌∙◌, ◌<◌, ◌≤◌, ℕ, List, Bool, length, set, get_or, slice_get, drop, Some, None, sym, ap, subst, arith, refl}
-use Rattle.std.specs.Option.{option_map}
-use Rattle.std.specs.List.{find, position_or_len}
+use Rattle.std.proofs.Common.{◌≡◌, ◌∙◌, ◌<◌, ℕ, List, length, set, get_or, slice_get, Some, sym, ap, subst}
+use Rattle.std.specs.List.{position_or_len}
 use Rattle.handle_set.specs.declared.records.Told.{Told}
 use Rattle.handle_set.specs.declared.settle.OpenSet.{OpenSet}
 use Rattle.handle_set.specs.Sets.{has_id, with_members, with_changed, of_set, first_ready, reported, members_changed, IsSettled}

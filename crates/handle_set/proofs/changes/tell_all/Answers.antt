@@ -1,10 +1,10 @@
-use Rattle.std.proofs.Common.{◌≡◌, ◌∙◌, ◌<◌, length, slice_get, Some, List, sym, ap, subst, add-one, arith, refl, map}
+use Rattle.std.proofs.Common.{◌≡◌, ◌∙◌, ◌<◌, length, slice_get, Some, List, sym, ap, subst, add-one, arith, refl}
 use Rattle.std.proofs.lemmas.Bool.{false≢true}
 use Rattle.handle_set.specs.declared.settle.OpenSet.{OpenSet}
 use Rattle.handle_set.specs.Members.{map_at}
-use Rattle.handle_set.specs.Sets.{set_told, has_ready}
+use Rattle.handle_set.specs.Sets.{set_told}
 use Rattle.handle_set.proofs.Places.{get_some}
-use Rattle.handle_set.proofs.Turns.{so_far, step}
+use Rattle.handle_set.proofs.Turns.{step}
 use Rattle.handle_set.proofs.changes.tell_all.Goals as goal
 use Rattle.handle_set.proofs.changes.tell_all.Goals.{then-tell_at, else-tell_at}
 

@@ -1,7 +1,6 @@
-use Rattle.std.proofs.Common.{◌≡◌, ◌∙◌, ◌<◌, ℕ, List, Bool, true, false, not, length, map, set, get_or, slice_get, Some, sym, ap, subst, refl}
+use Rattle.std.proofs.Common.{◌≡◌, ◌∙◌, Bool, true, false, not, map, set, get_or, sym, ap, refl}
 use mathlib.Core.Bool.{beq}
 use Rattle.handle_set.specs.declared.settle.OpenSet.{OpenSet}
-use Rattle.handle_set.specs.Members.{map_at}
 use Rattle.handle_set.specs.Sets.{has_ready, set_told, with_members}
 use Rattle.handle_set.proofs.Places.{got, get_set, map_at_is}
 use Rattle.handle_set.proofs.Telling.{map_at_kept}

@@ -1,8 +1,7 @@
-use Rattle.std.proofs.Common.{◌≡◌, ◌∙◌, sym, ap, subst, List, refl, map}
-use Rattle.handle_set.specs.declared.settle.OpenSet.{OpenSet}
-use Rattle.handle_set.specs.Sets.{IsUpToDate, IsSettled, set_told, has_ready}
+use Rattle.std.proofs.Common.{subst}
+use Rattle.handle_set.specs.Sets.{IsUpToDate}
 use Rattle.handle_set.proofs.Levels.{told_ranked}
-use Rattle.handle_set.proofs.Telling.{told_exact, told_known, told_settled, told_rests}
+use Rattle.handle_set.proofs.Telling.{told_known, told_settled, told_rests}
 use Rattle.handle_set.proofs.changes.tell_in.Goals as goal
 
 pub settle-requires-clause-ranked : goal.settle-requires-clause-ranked

@@ -1,7 +1,6 @@
-use Rattle.std.proofs.Common.{◌≡◌, ◌<◌, ◌≤◌, ◌∙◌, ◌==◌, not, List, length, map, slice_get, Some, None, arith, sym, ap, subst, ℕ}
+use Rattle.std.proofs.Common.{◌≡◌, ◌∙◌, List, slice_get, Some, arith, sym, ap, ℕ}
 use Rattle.std.specs.Option.{option_map}
-use Rattle.std.specs.List.{find, filter, remove, position_or_len}
-use Rattle.std.proofs.lemmas.List.Folds.{find_at}
+use Rattle.std.specs.List.{filter, remove, position_or_len}
 use Rattle.handle_set.specs.declared.records.Told.{Told}
 use Rattle.handle_set.specs.Members.{AreDifferent, has_label, is_other, object_of}
 use Rattle.handle_set.proofs.Orders.{found_label, all_other, others_removed}

@@ -1,9 +1,9 @@
-use Rattle.std.proofs.Common.{◌≡◌, ◌∙◌, ◌<◌, ◌≤◌, length, arith, sym, ap, ℕ, List, true, slice_get, Some, None, find, eq-eqb, refl}
+use Rattle.std.proofs.Common.{◌≡◌, ◌∙◌, ◌≤◌, length, arith, sym, ap, ℕ, List}
 use Rattle.std.specs.Option.{option_map}
 use Rattle.std.specs.List.{position_or_len}
 use Rattle.kernel_values.specs.declared.flags.Events.{Events}
 use Rattle.handle_set.specs.declared.records.Told.{Told}
-use Rattle.handle_set.specs.Members.{has_label, is_label_in, remasked, set_if, with_mask, with_mask_at}
+use Rattle.handle_set.specs.Members.{has_label, remasked, set_if, with_mask, with_mask_at}
 use Rattle.handle_set.proofs.Orders.{none_at, found_label, label_found}
 use Rattle.handle_set.proofs.ReadyLists.{labelled_at, label_past}
 use Rattle.handle_set.proofs.members.modify.Goals as goal

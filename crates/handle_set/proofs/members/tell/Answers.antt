@@ -1,4 +1,4 @@
-use Rattle.std.proofs.Common.{◌≡◌, ◌∙◌, sym, ap, refl, map, true, false, cond, length, arith, add-one, Bool, ℕ, eq-eqb, ◌==◌}
+use Rattle.std.proofs.Common.{◌≡◌, ◌∙◌, ap, refl, false, arith, add-one, ℕ, eq-eqb, ◌==◌}
 use Rattle.std.proofs.lemmas.Bool.Decides.{nat_tests}
 use Rattle.handle_set.specs.declared.records.Told.{Told}
 use Rattle.kernel_values.specs.declared.flags.Events.{Events}

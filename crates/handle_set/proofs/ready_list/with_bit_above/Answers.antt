@@ -1,5 +1,4 @@
-use Rattle.std.proofs.Common.{◌≡◌, ◌<◌, ◌∙◌, sym, ap, List, Bool, true, false, length, arith, ℕ, ◌*◌, ◌^◌, ◌%◌, ◌/◌, ◌+◌}
-use lib.Lanes.{mask_l}
+use Rattle.std.proofs.Common.{true, false, arith}
 use Rattle.handle_set.proofs.Masks.{mask_push, pow_below}
 use Rattle.handle_set.proofs.ready_list.with_bit_above.Goals as goal
 

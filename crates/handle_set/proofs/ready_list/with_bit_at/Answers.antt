@@ -1,5 +1,3 @@
-use Rattle.std.proofs.Common.{◌≡◌, ◌<◌, ◌∙◌, sym, ap, List, Bool, true, false, length, arith, ℕ, ◌*◌, ◌^◌, ◌%◌, ◌/◌, ◌+◌}
-use lib.Lanes.{mask_l}
 use Rattle.handle_set.proofs.Masks.{mask_mark, mask_unmark}
 use Rattle.handle_set.proofs.ready_list.with_bit_at.Goals as goal
 

@@ -1,5 +1,4 @@
-use Rattle.std.proofs.Common.{◌≡◌, ◌<◌, ◌∙◌, sym, ap, List, Bool, length, arith, ℕ, ◌*◌, ◌^◌, ◌%◌, ◌/◌, ◌+◌}
-use lib.Lanes.{mask_l}
+use Rattle.std.proofs.Common.{sym}
 use Rattle.handle_set.proofs.Masks.{mask_remove, pow_below}
 use Rattle.handle_set.proofs.ready_list.without_bit.Goals as goal
 

@@ -1,4 +1,4 @@
-use Rattle.std.proofs.Common.{◌≡◌, ◌∙◌, ◌<◌, ◌≤◌, refl, sym, arith, ℕ}
+use Rattle.std.proofs.Common.{◌∙◌, refl, arith}
 use Rattle.handle_set.proofs.Levels.{exact_to_none, exact_all, same_known}
 use Rattle.handle_set.proofs.settle.settle.Goals as goal
 

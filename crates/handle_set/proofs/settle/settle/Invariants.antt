@@ -1,4 +1,4 @@
-use Rattle.std.proofs.Common.{◌≡◌, ◌+◌, ℕ, length}
+use Rattle.std.proofs.Common.{◌≡◌, ℕ}
 use Rattle.handle_set.specs.Sets.{IsRankedBy, IsExactTo, shape, LeavesFollow}
 use Rattle.handle_set.proofs.settle.settle.Given as goal
 

@@ -1,6 +1,5 @@
-use Rattle.std.proofs.Common.{◌≡◌, ◌∙◌, Bool, true, false, slice_get, Some, sym, refl}
+use Rattle.std.proofs.Common.{◌≡◌, ◌∙◌, Bool, true, false, sym, refl}
 use mathlib.Core.Bool.{beq}
-use Rattle.handle_set.specs.Sets.{IsUpToDate}
 use Rattle.handle_set.proofs.Places.{get_some}
 use Rattle.handle_set.proofs.settle.settle_after.Goals as goal
 

@@ -1,5 +1,4 @@
-use Rattle.std.proofs.Common.{◌≡◌, ◌∙◌, ◌<◌, length, set, get_or, slice_get, Some, sym, ap, subst, ℕ}
-use Rattle.std.specs.Option.{IfSome}
+use Rattle.std.proofs.Common.{◌≡◌, ◌∙◌, ◌<◌, length, set, get_or, sym, ap, subst}
 use Rattle.handle_set.specs.declared.settle.OpenSet.{OpenSet}
 use Rattle.handle_set.specs.Members.{map_at, with_events}
 use Rattle.handle_set.specs.Sets.{with_members}

@@ -1,6 +1,5 @@
-use Rattle.std.proofs.Common.{◌≡◌, ◌∙◌, ◌<◌, ◌≤◌, length, sym, ap, subst, add-one, arith, Some, ℕ, set}
-use Rattle.std.specs.Option.{IfSome}
-use Rattle.handle_set.specs.Sets.{IsApart, with_settled, set_settled}
+use Rattle.std.proofs.Common.{◌∙◌, ◌<◌, length, sym, add-one, arith}
+use Rattle.handle_set.specs.Sets.{with_settled}
 use Rattle.handle_set.proofs.Levels.{apart_in, step_ranked, step_exact, step_before, step_shape, step_leaves, quiet_round, same_known}
 use Rattle.handle_set.proofs.Places.{get_some, get_within, map_at_is}
 use Rattle.std.proofs.lemmas.Bool.{false≢true}

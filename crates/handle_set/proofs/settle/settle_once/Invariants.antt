@@ -1,4 +1,4 @@
-use Rattle.std.proofs.Common.{◌≡◌, ◌+◌, ◌<◌, ℕ, length, false, slice_get, Some}
+use Rattle.std.proofs.Common.{◌≡◌, ◌+◌, ◌<◌, ℕ, false, slice_get, Some}
 use Rattle.handle_set.specs.declared.settle.OpenSet.{OpenSet}
 use Rattle.handle_set.specs.Sets.{IsRankedBy, IsExactTo, IsExactBefore, IsExactIn, shape, LeavesFollow}
 use Rattle.handle_set.proofs.settle.settle_once.Given as goal

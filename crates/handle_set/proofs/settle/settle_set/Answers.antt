@@ -1,7 +1,6 @@
-use Rattle.std.proofs.Common.{◌≡◌, ◌∙◌, ◌<◌, ◌≤◌, length, sym, ap, subst, add-one, arith, Some, ℕ, refl}
-use Rattle.std.specs.Option.{IfSome}
+use Rattle.std.proofs.Common.{◌∙◌, ◌<◌, ◌≤◌, length, sym, ap, add-one, arith, refl}
 use Rattle.handle_set.specs.declared.settle.OpenSet.{OpenSet}
-use Rattle.handle_set.specs.Sets.{IsApart, member_settled}
+use Rattle.handle_set.specs.Sets.{member_settled}
 use Rattle.handle_set.proofs.Levels.{turned_none, turned_member, turned_all, turned_more, flat_rests}
 use Rattle.handle_set.proofs.Places.{got, get_some}
 use Rattle.std.proofs.lemmas.Bool.{false≢true}

@@ -1,4 +1,4 @@
-use Rattle.std.proofs.Common.{◌≡◌, ◌++◌, map, take, drop, false}
+use Rattle.std.proofs.Common.{◌≡◌, false}
 use Rattle.handle_set.specs.Members.{map_at}
 use Rattle.handle_set.specs.Sets.{settled_in, with_members}
 use Rattle.handle_set.proofs.Turns.{so_far}

@@ -1,7 +1,6 @@
-use Rattle.std.proofs.Common.{◌≡◌, ◌∙◌, List, Option, Some, None, sym, ap}
+use Rattle.std.proofs.Common.{◌∙◌, sym, ap}
 use Rattle.handle_set.proofs.Places.{got, get_past}
-use Rattle.wait_events.specs.declared.watch.Watch.{Watch}
-use Rattle.wait_events.specs.Waits.{first_told, told_in_turn}
+use Rattle.wait_events.specs.Waits.{told_in_turn}
 use Rattle.wait_events.proofs.waits.first_told.Goals as goal
 
 pub returns-then-tables-at : goal.returns-then-tables-at

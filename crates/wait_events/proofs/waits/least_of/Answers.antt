@@ -1,7 +1,5 @@
-use Rattle.std.proofs.Common.{◌≡◌, ◌∙◌, ◌<◌, ◌≤◌, ◌+◌, ◌-◌, ℕ, suc, List, Option, Some, None, length, drop, slice_get, sym, ap, arith, refl}
-use Rattle.std.proofs.lemmas.List.{drop_all}
+use Rattle.std.proofs.Common.{◌≡◌, ◌∙◌, ◌<◌, ◌+◌, ◌-◌, suc, Some, length, drop, slice_get, sym, ap, arith}
 use Rattle.kernel_types.specs.CoreStep.{sooner}
-use Rattle.wait_events.specs.declared.waits.Waiting.{Waiting}
 use Rattle.wait_events.specs.Waits.{deadline_in, least_deadline}
 use Rattle.wait_events.proofs.Deadlines.{one_more, past_all}
 use Rattle.wait_events.proofs.waits.least_of.Goals as goal

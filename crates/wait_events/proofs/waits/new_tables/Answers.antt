@@ -1,4 +1,4 @@
-use Rattle.std.proofs.Common.{◌≡◌, ◌∙◌, ◌+◌, ◌≤◌, ◌++◌, ◌∷◌, [], List, replicate, sym, ap, arith}
+use Rattle.std.proofs.Common.{◌∙◌, ◌++◌, ◌∷◌, [], List, replicate, ap, arith}
 use Rattle.std.proofs.lemmas.List.{replicate_more}
 use Rattle.wait_events.specs.declared.watch.Watch.{Watch}
 use Rattle.wait_events.specs.Waits.{no_watch}

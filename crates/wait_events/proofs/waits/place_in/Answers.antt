@@ -1,4 +1,4 @@
-use Rattle.std.proofs.Common.{◌≡◌, ◌∙◌, List, set, sym, ap}
+use Rattle.std.proofs.Common.{◌∙◌, List, set, sym, ap}
 use Rattle.handle_set.proofs.Places.{got, map_at_is}
 use Rattle.wait_events.specs.declared.watch.Watch.{Watch}
 use Rattle.wait_events.proofs.waits.place_in.Goals as goal

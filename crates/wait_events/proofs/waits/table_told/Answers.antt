@@ -1,8 +1,5 @@
-use Rattle.std.proofs.Common.{◌≡◌, ◌∙◌, List, sym, ap}
-use Rattle.std.specs.List.{list_any}
+use Rattle.std.proofs.Common.{◌∙◌, sym, ap}
 use Rattle.handle_set.proofs.Places.{got, get_past}
-use Rattle.wait_events.specs.declared.watch.Watch.{Watch}
-use Rattle.wait_events.specs.Watches.{is_told}
 use Rattle.wait_events.specs.Waits.{table_told}
 use Rattle.wait_events.proofs.waits.table_told.Goals as goal
 

@@ -1,10 +1,10 @@
-use Rattle.std.proofs.Common.{◌≡◌, ◌∙◌, ◌<◌, List, Option, length, set, slice_get, Some, sym, ap, subst, refl, arith, add-one}
+use Rattle.std.proofs.Common.{◌≡◌, ◌∙◌, List, Option, set, slice_get, Some, sym, ap, subst, refl, add-one}
 use Rattle.std.specs.Option.{option_map}
 use Rattle.handle_set.specs.Members.{map_at}
 use Rattle.handle_set.proofs.Places.{map_at_is}
 use Rattle.handle_set.proofs.Turns.{step}
 use Rattle.wait_events.specs.declared.waits.Waiting.{Waiting}
-use Rattle.wait_events.specs.Waits.{retold_wait, with_cancelled}
+use Rattle.wait_events.specs.Waits.{retold_wait}
 use Rattle.wait_events.proofs.waits.tell_actors.Goals as goal
 
 pub loop-at-preserved : goal.loop-at-preserved

@@ -1,4 +1,4 @@
-use Rattle.std.proofs.Common.{◌≡◌, ◌∙◌, ◌<◌, List, length, map, set, get_or, slice_get, Some, sym, ap, subst, refl, arith, add-one}
+use Rattle.std.proofs.Common.{◌≡◌, ◌∙◌, ◌<◌, List, length, map, set, slice_get, Some, sym, ap, subst, refl, arith, add-one}
 use Rattle.handle_set.specs.Members.{map_at}
 use Rattle.handle_set.proofs.Places.{got, map_at_is}
 use Rattle.handle_set.proofs.Turns.{step}

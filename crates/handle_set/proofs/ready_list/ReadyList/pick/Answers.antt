@@ -1,4 +1,4 @@
-use Rattle.std.proofs.Common.{refl, ◌-◌, ◌++◌, ◌∷◌, [], ◌≡◌, ◌<◌, ◌≤◌, ◌∙◌, sym, ap, List, Bool, true, false, length, map, Some, None, option_map, arith, ℕ, ◌*◌, ◌^◌, ◌%◌, ◌/◌, ◌+◌}
+use Rattle.std.proofs.Common.{refl, ◌-◌, ◌≡◌, ◌<◌, ◌∙◌, sym, ap, length, map, arith, ℕ}
 use Rattle.std.specs.Int.{trailing_zeros, w64}
 use Rattle.std.specs.List.{remove}
 use Rattle.std.proofs.lemmas.List.{length-map}

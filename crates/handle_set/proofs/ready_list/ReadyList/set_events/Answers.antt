@@ -1,4 +1,4 @@
-use Rattle.std.proofs.Common.{◌≡◌, ◌<◌, ◌∙◌, sym, ap, refl, map, length, arith, set, Some, slice_get}
+use Rattle.std.proofs.Common.{◌≡◌, ap, refl, map, arith, set, Some, slice_get}
 use Rattle.std.specs.Option.{option_map}
 use Rattle.std.proofs.lemmas.List.{length-map}
 use Rattle.handle_set.specs.Members.{is_ready, with_events, with_events_at, set_if}

@@ -1,8 +1,8 @@
-use Rattle.std.proofs.Common.{◌≡◌, ◌∙◌, ◌++◌, List, length, drop, inr, sym, ap, subst, arith}
+use Rattle.std.proofs.Common.{◌≡◌, ◌∙◌, List, length, drop, inr, sym, ap, subst, arith}
 use Rattle.std.proofs.lemmas.List.{take_at}
 use Rattle.handle_set.specs.declared.settle.OpenSet.{OpenSet}
 use Rattle.handle_set.specs.Adding.{add_refusal, with_added}
-use Rattle.handle_set.specs.Sets.{CanHave, IsUpToDate, Memberships, is_open}
+use Rattle.handle_set.specs.Sets.{IsUpToDate, Memberships}
 use Rattle.handle_set.proofs.sets.Sets.add.Goals as goal
 
 pub returns-in-Some-clause-cause : goal.returns-in-Some-clause-cause

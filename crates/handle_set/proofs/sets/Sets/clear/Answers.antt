@@ -1,7 +1,6 @@
-use Rattle.std.proofs.Common.{◌≡◌, ◌∙◌, ◌<◌, ◌≤◌, ◌++◌, ℕ, List, Option, Some, None, length, drop, sym, ap, subst, arith}
-use Rattle.std.proofs.lemmas.List.{take_at}
+use Rattle.std.proofs.Common.{◌≡◌, ◌∙◌, ◌≤◌, ℕ, List, Option, Some, None, ap, arith}
 use Rattle.handle_set.specs.declared.records.Told.{Told}
-use Rattle.handle_set.specs.Sets.{IsSettled, Memberships, cleared_by, is_member}
+use Rattle.handle_set.specs.Sets.{Memberships, is_member}
 use Rattle.handle_set.specs.Spares.{IsSpare}
 use Rattle.handle_set.proofs.Opening.{closed_settled}
 use Rattle.handle_set.proofs.sets.Sets.clear.Goals as goal

@@ -1,7 +1,7 @@
-use Rattle.std.proofs.Common.{◌≡◌, ◌∙◌, ◌++◌, List, length, map, drop, sym, ap, subst, arith}
+use Rattle.std.proofs.Common.{◌≡◌, ◌∙◌, List, length, drop, ap, subst, arith}
 use Rattle.std.proofs.lemmas.List.{take_at}
 use Rattle.handle_set.specs.declared.settle.OpenSet.{OpenSet}
-use Rattle.handle_set.specs.Sets.{IsUpToDate, Memberships, members_changed, remasked_at, set_told, without_label}
+use Rattle.handle_set.specs.Sets.{IsUpToDate, Memberships, members_changed, without_label}
 use Rattle.handle_set.proofs.sets.Sets.del.Goals as goal
 
 pub invariant_of-self : goal.invariant_of-self

@@ -1,4 +1,3 @@
-use Rattle.std.proofs.Common.{◌≡◌, sym}
 use Rattle.handle_set.proofs.Opening.{none_settled}
 use Rattle.handle_set.proofs.sets.Sets.new.Goals as goal
 

@@ -1,7 +1,6 @@
 use Rattle.std.proofs.Common.{◌≡◌, ◌∙◌, ◌++◌, ◌∷◌, [], List, Some, sym, ap, subst}
 use Rattle.std.proofs.lemmas.Bool.{false≢true}
 use Rattle.handle_set.specs.declared.records.Told.{Told}
-use Rattle.handle_set.specs.declared.settle.OpenSet.{OpenSet}
 use Rattle.handle_set.specs.Sets.{IsSettled, Memberships, is_member, is_open}
 use Rattle.handle_set.proofs.Opening.{opened_settled}
 use Rattle.handle_set.proofs.sets.Sets.open_set.Goals as goal

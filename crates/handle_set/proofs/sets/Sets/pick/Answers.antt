@@ -1,4 +1,4 @@
-use Rattle.std.proofs.Common.{◌≡◌, ◌∙◌, ◌++◌, List, length, drop, sym, ap, subst, arith}
+use Rattle.std.proofs.Common.{◌≡◌, length, drop, arith}
 use Rattle.std.proofs.lemmas.List.{take_at}
 use Rattle.handle_set.proofs.sets.Sets.pick.Goals as goal
 

@@ -1,4 +1,4 @@
-use Rattle.std.proofs.Common.{◌≡◌, ◌∙◌, ◌<◌, ◌≤◌, length, map, set, arith, ap}
+use Rattle.std.proofs.Common.{◌∙◌, map, set, arith, ap}
 use Rattle.std.proofs.lemmas.List.{length-map}
 use lib.Lanes.{mask_l}
 use Rattle.wait_events.specs.Watches.{is_told}

@@ -1,4 +1,4 @@
-use Rattle.std.proofs.Common.{◌≡◌, ◌∙◌, ◌<◌, List, length, set, slice_get, Some, sym, ap, subst, refl, arith, add-one}
+use Rattle.std.proofs.Common.{◌≡◌, ◌∙◌, List, set, slice_get, Some, sym, ap, subst, refl, arith, add-one}
 use Rattle.handle_set.specs.Members.{map_at}
 use Rattle.handle_set.proofs.Places.{map_at_is}
 use Rattle.handle_set.proofs.Turns.{so_far_all, step}

@@ -1,5 +1,4 @@
 use Rattle.std.proofs.Common.{◌≡◌, ◌∙◌, List, Option, Some, slice_get, sym, ap, subst, refl}
-use Rattle.std.specs.Option.{option_map}
 use Rattle.wait_events.specs.declared.waits.Waiting.{Waiting}
 use Rattle.wait_events.specs.Waits.{deadline_in, with_decided}
 use Rattle.wait_events.proofs.Deadlines.{least_set, mapped_deadline}

@@ -1,5 +1,5 @@
-use Rattle.std.proofs.Common.{◌≡◌, ◌∙◌, List, length, replicate, sym, ap, refl}
-use Rattle.wait_events.specs.Waits.{least_deadline, no_watch}
+use Rattle.std.proofs.Common.{◌∙◌, length, ap}
+use Rattle.wait_events.specs.Waits.{least_deadline}
 use Rattle.wait_events.proofs.waits.Waits.new.Goals as goal
 
 pub invariant_of-result : goal.invariant_of-result
