@@ -1,7 +1,8 @@
 //! A caller of `memref`.
 
-ghost use Rattle.std.specs.Prelude.{◌≡◌, length, OnOk, OnErr};
-ghost use Rattle.memref.specs.Ranges.{answer_of, write_refusal, part, overwritten};
+ghost use Rattle.std.specs.Prelude.{◌≡◌, drop, length, take, OnOk, OnErr};
+ghost use Rattle.kernel_types.specs.Memories.{written};
+ghost use Rattle.memref.specs.Ranges.{answer_of, write_refusal};
 
 use kernel_values::Errno;
 use memref::MemRef;
@@ -16,8 +17,8 @@ pub fn exchange(
 ) -> Result<(), Errno>
     requires { length before.old ≡ length bytes.now }
     ensures answer { result ≡ answer_of (write_refusal memory.old offset (length bytes.now)) }
-    ensures before { OnOk result (before.new ≡ part memory.old.bytes offset (length bytes.now)) }
-    ensures written { OnOk result (memory.new ≡ record memory.old { bytes = overwritten memory.old.bytes offset bytes.now }) }
+    ensures before { OnOk result (before.new ≡ take (length bytes.now) (drop offset memory.old.bytes)) }
+    ensures written { OnOk result (memory.new ≡ written offset bytes.now memory.old) }
     ensures kept { OnErr result (memory.new ≡ memory.old) }
 {
     memory.read_into(offset, before)?;
