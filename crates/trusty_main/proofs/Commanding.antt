@@ -7,10 +7,9 @@ use Rattle.command_line.specs.declared.command.Command.TheVariants as command
 use Rattle.kernel_types.specs.Facts.{is_at_end}
 use Rattle.kernel_types.specs.History.{state_after}
 use Rattle.kernel_types.specs.Opening.{opening}
-use Rattle.kernel_types.specs.Turns.{Outturn, ran, history_limit}
+use Rattle.kernel_types.specs.Turns.{history_limit}
 use Rattle.kernel_log.specs.Logs.{Log}
 use Rattle.kernel_values.specs.SceneLaw.{SceneValue}
-use Rattle.kernel_values.specs.declared.entry.Entry.{Entry}
 use Rattle.outside_io.specs.Faults.{Rose}
 use Rattle.outside_io.specs.Reading.{ReadsWhole}
 use Rattle.report_text.specs.Forms.{report}
@@ -18,9 +17,9 @@ use Rattle.report_text.specs.declared.form.Form.{Form}
 use Rattle.runners.specs.Runs.{Carries, IsRunToEnd, IsRunToLimit, origin_of}
 use Rattle.scene_reader.specs.Whole.{scene_of}
 use Rattle.script_lines.specs.declared.fault.SceneFault.{SceneFault}
-use Rattle.trusty_main.specs.Answers.{AppendsSome, AppendsSomeDue, GetsDue, HasPlan, HasScene, IsEndless, IsWholeRun, Tells, Told}
-use Rattle.trusty_main.specs.Commanded.{AppendsSomeOf, GetsDueOf, HasCommand, IsDue, IsDueOfScene, IsPlain, IsReported, AppendsFrontOf, IsRunByThreads, TellsSome, ToldOf, due_of_history, form_of}
-use Rattle.trusty_main.specs.Due.{Due, due, due_of_run, due_of_scene}
+use Rattle.trusty_main.specs.Answers.{AppendsSome, AppendsSomeDue, GetsDue, HasPlan, HasScene, IsEndless, IsReportOf, IsRunOfPlan, ReportsRun, Tells, TellsLong, Told}
+use Rattle.trusty_main.specs.Commanded.{AppendsSomeOf, GetsDueOf, HasCommand, IsDue, IsDueOfScene, IsPlain, IsReported, AppendsFrontOf, TellsSome, ToldOf, form_of}
+use Rattle.trusty_main.specs.Due.{Due, due, due_of_run}
 use Rattle.trusty_main.specs.Plans.{outturn_of, plan_of}
 use Rattle.trusty_main.specs.Texts.{fault_text, too_long_text}
 use Rattle.trusty_main.specs.declared.plan.Order.TheVariants as order
@@ -62,32 +61,35 @@ report_if true scene form d e old new told is appended = appended
 report_if false scene form d e old new told is appended = absurd (cc)
 
 whole_reported : (plan : Plan) (scene : SceneValue) (old new : Option (List ℕ)) → Told (due_of_run scene plan.form (outturn_of plan.order scene)) status.Done old new
-    → IsWholeRun plan.order scene → IsReported plan.form scene old new
-whole_reported plan scene old new told whole = record {
-  entries = whole.run.entries;
-  history = whole.history;
-  appended = report_if (is_at_end whole.run.state) scene plan.form _ _ old new status.Done (subst (λ s. IsTrue (is_at_end s)) (sym whole.state_is) whole.history.whole.ended)
-      (subst (λ outturn. Appends old new (due_of_run scene plan.form outturn).text) whole.run_is told.appended);
+    → ReportsRun plan.order plan.form scene old new → IsReported plan.form scene old new
+whole_reported plan scene old new told reports = record {
+  entries = reports.whole.run.entries;
+  history = reports.whole.history;
+  appended = report_if (is_at_end reports.whole.run.state) scene plan.form _ _ old new status.Done
+      (subst (λ s. IsTrue (is_at_end s)) (sym reports.whole.state_is) reports.whole.history.whole.ended)
+      (subst (λ outturn. Appends old new (due_of_run scene plan.form outturn).text) reports.whole.run_is told.appended);
+  report = reports.report;
 }
 
 done_read : (plan : Plan) (input : List ℕ) (read : Result SceneValue SceneFault) (old new : Option (List ℕ)) → scene_of input ≡ read
-    → Told (due plan input) status.Done old new → HasScene read (λ scene. IsWholeRun plan.order scene) → HasScene read (λ scene. IsReported plan.form scene old new)
-done_read plan input (Ok scene) old new is told whole =
-    whole_reported plan scene old new (subst (λ d. Told d status.Done old new) (sym (read_is_due plan input (Ok scene) is)) told) whole
-done_read plan input (Err fault) old new is told whole = absurd whole
+    → Told (due plan input) status.Done old new → HasScene read (λ scene. ReportsRun plan.order plan.form scene old new) → HasScene read (λ scene. IsReported plan.form scene old new)
+done_read plan input (Ok scene) old new is told reports =
+    whole_reported plan scene old new (subst (λ d. Told d status.Done old new) (sym (read_is_due plan input (Ok scene) is)) told) reports
+done_read plan input (Err fault) old new is told reports = absurd reports
 
 pub done_plain : (command : Option Command) (left : Option (List ℕ)) (old new : Option (List ℕ))
-    → HasPlan (plan_of command) (λ plan. IfSome left (λ input. Told (due plan input) status.Done old new × HasScene (scene_of input) (λ scene. IsWholeRun plan.order scene)))
+    → HasPlan (plan_of command) (λ plan. IfSome left (λ input. Told (due plan input) status.Done old new × HasScene (scene_of input) (λ scene. IsRunOfPlan plan.order scene)))
+    → HasPlan (plan_of command) (λ plan. IfSome left (λ input. HasScene (scene_of input) (λ scene. ReportsRun plan.order plan.form scene old new)))
     → HasCommand command (λ command. IfSome left (λ input. HasScene (scene_of input) (λ scene. IsReported (form_of command) scene old new)))
-done_plain None left old new holds = absurd holds
-done_plain (Some (command.Serial form)) None old new holds = tt
-done_plain (Some (command.Serial form)) (Some input) old new holds = done_read (record { order = order.Serial; form = form }) input (scene_of input) old new refl holds.0 holds.1
-done_plain (Some (command.Replay form)) None old new holds = tt
-done_plain (Some (command.Replay form)) (Some input) old new holds = done_read (record { order = order.Replay; form = form }) input (scene_of input) old new refl holds.0 holds.1
-done_plain (Some (command.Run form)) left old new holds = absurd holds
+done_plain None left old new holds reports = absurd holds
+done_plain (Some (command.Serial form)) None old new holds reports = tt
+done_plain (Some (command.Serial form)) (Some input) old new holds reports = done_read (record { order = order.Serial; form = form }) input (scene_of input) old new refl holds.0 reports
+done_plain (Some (command.Replay form)) None old new holds reports = tt
+done_plain (Some (command.Replay form)) (Some input) old new holds reports = done_read (record { order = order.Replay; form = form }) input (scene_of input) old new refl holds.0 reports
+done_plain (Some (command.Run form)) left old new holds reports = absurd holds
 
 pub told_done_plain : (command : Option Command) (left : Option (List ℕ)) (old new : Option (List ℕ))
-    → HasPlan (plan_of command) (λ plan. IfSome left (λ input. Told (due plan input) status.Done old new × HasScene (scene_of input) (λ scene. IsWholeRun plan.order scene)))
+    → HasPlan (plan_of command) (λ plan. IfSome left (λ input. Told (due plan input) status.Done old new × HasScene (scene_of input) (λ scene. IsRunOfPlan plan.order scene)))
     → HasCommand command (λ command. IfSome left (λ input. ToldOf command input status.Done old new))
 told_done_plain None left old new holds = absurd holds
 told_done_plain (Some (command.Serial form)) None old new holds = tt
@@ -140,33 +142,6 @@ no_command (Some (command.Run form)) plain is = absurd (plain form refl)
 
 -- A run by threads.
 
-due_done : (scene : SceneValue) (form : Form) (entries : List Entry) (ended : Bool) → is_at_end (state_after (opening scene) entries) ≡ ended → (due : Due)
-    → due ≡ due_of_history scene form entries → due.status ≡ status.Done → (ended ≡ true) × (due.text ≡ report scene entries form)
-due_done scene form entries true is due due_is done =
-    let made : due_of_history scene form entries ≡ record { status = status.Done; text = report scene entries form } = rw is refl in
-    (refl, ap (λ (d : Due). d.text) (due_is ∙ made))
-due_done scene form entries false is due due_is done =
-    let made : due_of_history scene form entries ≡ record { status = status.RunTooLong; text = too_long_text } = rw is refl in
-    let long : due.status ≡ status.RunTooLong = ap (λ (d : Due). d.status) (due_is ∙ made) in
-    absurd (cc)
-
-done_of : (form : Form) (read : Result SceneValue SceneFault) (due : Due) (old new : Option (List ℕ)) → IsDueOfScene (command.Run form) read due
-    → Told due status.Done old new → HasScene read (λ scene. IsReported form scene old new)
-done_of form (Err fault) due old new is_due told =
-    let refused : due.status ≡ status.InputRefused = ap (λ d. d.status) is_due in
-    let done : due.status ≡ status.Done = told.status_is in
-    absurd (cc)
-done_of form (Ok scene) due old new is_due told =
-    let entries : List Entry = is_due.0 in
-    let run : IsRunByThreads scene entries = is_due.1 in
-    let both : (is_at_end (state_after (opening scene) entries) ≡ true) × (due.text ≡ report scene entries form) =
-    due_done scene form entries (is_at_end (state_after (opening scene) entries)) refl due is_due.2 told.status_is in
-    record {
-      entries = entries;
-      history = is_history scene entries run.legal (record { follows = run.follows; ended = both.0 }) run.crosses;
-      appended = subst (λ text. Appends old new text) both.1 told.appended;
-    }
-
 -- what is told of an input that was read whole
 
 told_by : (P : List ℕ → Type 0) (limit : ℕ) (left after : Option (List ℕ)) (input : List ℕ) → ReadsWhole limit left after input → P input → IfSome left P
@@ -175,6 +150,12 @@ told_by P limit (Some all) None input read holds = absurd read.taken
 told_by P limit (Some all) (Some rest) input read holds =
     let same : input ≡ all = sym (read.taken ∙ (ap (λ r. input ++ r) read.at_end ∙ append-nil input)) in
     subst P same holds
+
+pub run_done : (form : Form) (input : List ℕ) (old new : Option (List ℕ)) (result : Status) (limit : ℕ) (left after : Option (List ℕ)) → ReadsWhole limit left after input
+    → (result ≡ status.Done → HasScene (scene_of input) (λ scene. IsReported form scene old new)) → result ≡ status.Done
+    → IfSome left (λ input. HasScene (scene_of input) (λ scene. IsReported form scene old new)) × IsAtEnd after
+run_done form input old new result limit left after read holds is =
+    (told_by (λ all. HasScene (scene_of all) (λ scene. IsReported form scene old new)) limit left after input read (holds is), read.at_end)
 
 abbrev pub Gets : Form → List ℕ → (old new : Option (List ℕ)) (before now : ℕ) → Status → Type 0
 Gets form input old new before now result = TellsSome (IsDue (command.Run form) input) old new before now result
@@ -216,10 +197,6 @@ gets_of form input result limit (Some all) after read gets = λ within no_fault 
     told_by (HasStatus form result) limit (Some all) after input read (gets written room)
 
 module _ (form : Form) (input : List ℕ) (old new : Option (List ℕ)) (before now : ℕ) (result : Status) where
-  done_here : Gets form input old new before now result → result ≡ status.Done → HasScene (scene_of input) (λ scene. IsReported form scene old new)
-  done_here (inl (due, is_due, tells)) is = done_of form (scene_of input) due old new is_due (tells.done is)
-  done_here (inr untold) is = let bad : result ≡ status.NoMemory = untold.0 in absurd (cc)
-
   told_here : Gets form input old new before now result → result ≡ status.Done → ToldOf (command.Run form) input status.Done old new
   told_here (inl (due, is_due, tells)) is = record { due = due; is_due = is_due; told = tells.done is }
   told_here (inr untold) is = let bad : result ≡ status.NoMemory = untold.0 in absurd (cc)
@@ -264,10 +241,6 @@ module _ (form : Form) (input : List ℕ) (old new : Option (List ℕ)) (before 
   run_no_fault (inr untold) = (λ is. let bad : result ≡ status.NoMemory = untold.0 in absurd (cc), λ is. let bad : result ≡ status.NoMemory = untold.0 in absurd (cc))
 
   module _ (limit : ℕ) (left after : Option (List ℕ)) (read : ReadsWhole limit left after input) where
-    pub run_done : Gets form input old new before now result → result ≡ status.Done
-        → IfSome left (λ input. HasScene (scene_of input) (λ scene. IsReported form scene old new)) × IsAtEnd after
-    run_done gets is = (told_by _ limit left after input read (done_here gets is), read.at_end)
-
     pub run_told : Gets form input old new before now result → result ≡ status.Done → IfSome left (λ input. ToldOf (command.Run form) input status.Done old new)
     run_told gets is = told_by _ limit left after input read (told_here gets is)
 
@@ -335,3 +308,50 @@ limit_told scene form log old new before now result run carries told =
       (log.journal.entries, record { legal = run.run.legal; follows = run.run.follows; crosses = carries; long = λ _. run.full }, rw goes_on refl),
       told,
     )
+
+pub run_reported : (scene : SceneValue) (form : Form) (log : Log) (old new : Option (List ℕ)) (before now : ℕ) (result : Status) → IsRunToEnd (origin_of scene) log → Carries scene log
+    → Tells (record { status = status.Done; text = report scene log.journal.entries form }) old new before now result
+    → (result ≡ status.Done → IsReportOf form scene log.journal.entries old new) → result ≡ status.Done → IsReported form scene old new
+run_reported scene form log old new before now result run carries tells reports done = record {
+  entries = log.journal.entries;
+  history = is_history scene log.journal.entries run.run.legal run.whole carries;
+  appended = (tells.done done).appended;
+  report = reports done;
+}
+
+-- What holds of a plan, where there is one.
+
+pub reported_plan : (o : Option Plan) (left : Option (List ℕ)) (old new : Option (List ℕ))
+    → HasPlan o (λ plan. IfSome left (λ input. HasScene (scene_of input) (λ scene. ReportsRun plan.order plan.form scene old new)))
+    → IfSome o (λ plan. IfSome left (λ input. HasScene (scene_of input) (λ scene. ReportsRun plan.order plan.form scene old new)))
+reported_plan None left old new holds = tt
+reported_plan (Some plan) left old new holds = holds
+
+pub endless_plan : (o : Option Plan) (left : Option (List ℕ)) (old new : Option (List ℕ))
+    → HasPlan o (λ plan. IfSome left (λ input. Told (due plan input) status.RunTooLong old new × HasScene (scene_of input) (λ scene. IsEndless plan.order scene)))
+    → IfSome o (λ plan. IfSome left (λ input. HasScene (scene_of input) (λ scene. IsEndless plan.order scene)))
+endless_plan None left old new holds = tt
+endless_plan (Some plan) None old new holds = tt
+endless_plan (Some plan) (Some input) old new holds = holds.1
+
+no_run_plan : (asked : Option Command) (form : Form) (P : Plan → Type 0) → asked ≡ Some (command.Run form) → IfSome (plan_of asked) P
+no_run_plan None form P is = absurd (cc)
+no_run_plan (Some (command.Serial other)) form P is = absurd (cc)
+no_run_plan (Some (command.Replay other)) form P is = absurd (cc)
+no_run_plan (Some (command.Run other)) form P is = tt
+
+pub no_run_reported : (asked : Option Command) (form : Form) (left : Option (List ℕ)) (old new : Option (List ℕ)) → asked ≡ Some (command.Run form)
+    → IfSome (plan_of asked) (λ plan. IfSome left (λ input. HasScene (scene_of input) (λ scene. ReportsRun plan.order plan.form scene old new)))
+no_run_reported asked form left old new is =
+    no_run_plan asked form (λ plan. IfSome left (λ input. HasScene (scene_of input) (λ scene. ReportsRun plan.order plan.form scene old new))) is
+
+pub no_run_endless : (asked : Option Command) (form : Form) (left : Option (List ℕ)) → asked ≡ Some (command.Run form)
+    → IfSome (plan_of asked) (λ plan. IfSome left (λ input. HasScene (scene_of input) (λ scene. IsEndless plan.order scene)))
+no_run_endless asked form left is = no_run_plan asked form (λ plan. IfSome left (λ input. HasScene (scene_of input) (λ scene. IsEndless plan.order scene))) is
+
+pub long_plain : (asked : Option Command) (left : Option (List ℕ)) (limit : ℕ) (result : Status) → IsPlain asked
+    → IfSome (plan_of asked) (λ _. TellsLong left limit result) → IfSome asked (λ _. TellsLong left limit result)
+long_plain None left limit result plain holds = tt
+long_plain (Some (command.Serial form)) left limit result plain holds = holds
+long_plain (Some (command.Replay form)) left limit result plain holds = holds
+long_plain (Some (command.Run form)) left limit result plain holds = absurd (plain form refl)

@@ -1,7 +1,7 @@
 -- What each status of the program says.
-use Rattle.std.specs.Prelude.{◌≡◌, ◌≢◌, ◌≤◌, ◌<◌, ℕ, List, ◌++◌, false, length, Option, Some, None, Result, Ok, Err, IsTrue, ⊤}
+use Rattle.std.specs.Prelude.{◌≡◌, ◌≢◌, ◌≤◌, ◌<◌, ◌+◌, ◌⊎◌, ℕ, List, ◌++◌, false, length, take, slice_get, Option, Some, None, Result, Ok, Err, IsTrue, ⊤}
 use Rattle.std.specs.Io.KnownBytes.{Appends}
-use Rattle.std.specs.List.{list_all}
+use Rattle.std.specs.List.{list_all, sum_by}
 use Rattle.app_laws.specs.Ended.{EndedNameNone}
 use Rattle.kernel_types.specs.Carried.{IsCarried, is_honest}
 use Rattle.kernel_types.specs.History.{Legal, state_after}
@@ -11,9 +11,14 @@ use Rattle.kernel_types.specs.Turns.{Run, ran, refused, history_limit}
 use Rattle.kernel_types.specs.Whole.{IsWholeHistory, FollowsScripts}
 use Rattle.kernel_types.specs.Facts.{is_at_end, names_at}
 use Rattle.kernel_values.specs.SceneLaw.{SceneValue, scripts_of}
+use Rattle.kernel_values.specs.declared.entry.EndFacts.{EndFacts}
 use Rattle.kernel_values.specs.declared.entry.Entry.{Entry}
 use Rattle.kernel_values.specs.declared.state.State.{State}
 use Rattle.outside_io.specs.Faults.{Rose}
+use Rattle.report_text.specs.Forms.{report, report_told}
+use Rattle.report_text.specs.Histories.{TellsOnly}
+use Rattle.report_text.specs.declared.form.Form.{Form}
+use Rattle.report_text.specs.declared.form.Form.TheVariants.{History}
 use Rattle.script_lines.specs.declared.fault.SceneFault.{SceneFault}
 use Rattle.trusty_main.specs.Due.{Due, due}
 use Rattle.trusty_main.specs.Plans.{outturn_of}
@@ -23,9 +28,15 @@ use Rattle.trusty_main.specs.declared.plan.Plan.{Plan}
 use Rattle.trusty_main.specs.declared.status.Status.{Status}
 use Rattle.trusty_main.specs.declared.status.Status.TheVariants as status
 
--- each object's count is the number of entries that name it
-abbrev pub CountsNames : State → Type 0
-CountsNames s = (object count : ℕ) → names_at s object ≡ Some count → count ≡ names_of (naming s.core) object
+-- what was told of a state: how many objects are there, and how many entries name them, counted for each and summed up
+pub record Counts (s : State) (told : EndFacts) : Type 0 where
+  pub objects : told.objects ≡ length s.core.objects
+  pub names : told.names ≡ sum_by (λ object. names_of (naming s.core) object.id) s.core.objects
+
+-- so after each entry of a history of the scene
+pub record CountsAlong (scene : SceneValue) (entries : List Entry) (facts : List EndFacts) : Type 0 where
+  pub each : length facts ≡ length entries
+  pub counted : (k : ℕ) (told : EndFacts) → slice_get facts k ≡ Some told → Counts (state_after (opening scene) (take (k + 1) entries)) told
 
 -- no object outlives its names: each that is there is named by some entry
 abbrev pub IsNamedWhileThere : State → Type 0
@@ -37,22 +48,36 @@ abbrev pub Crosses : SceneValue → List Entry → Type 0
 Crosses scene entries = IsTrue (list_all is_honest scene.clients) → IsCarried (opening scene) entries
 
 -- A legal history of the sequential kernel from the scene's opening state, in which each actor's calls are its script's, each
--- once, in its order, to its end; and after every step of it each object's count is the number of entries that name it, and each
--- that is there is named, and an ended application names none. Frames cross in order.
+-- once, in its order, to its end; and after every step of it each object that is there is named, and an ended application names
+-- none. Frames cross in order.
 pub record IsSequentialHistory (scene : SceneValue) (entries : List Entry) : Type 0 where
   pub legal : Legal (opening scene) entries
   pub whole : IsWholeHistory scene entries
-  pub counted : (before after : List Entry) → entries ≡ before ++ after → CountsNames (state_after (opening scene) before)
   pub named : (before after : List Entry) → entries ≡ before ++ after → IsNamedWhileThere (state_after (opening scene) before)
   pub ended : (before after : List Entry) → entries ≡ before ++ after → EndedNameNone (state_after (opening scene) before)
   pub crosses : Crosses scene entries
 
+-- The report of a history was written: by the facts that the kernel gave after each entry, which its journal keeps, and at the end.
+-- They are the counts of the states there. In the history form the report is that of no other history.
+pub record IsReportOf (form : Form) (scene : SceneValue) (entries : List Entry) (old new : Option (List ℕ)) : Type 0 where
+  pub facts : List EndFacts
+  pub last : EndFacts
+  pub counted : CountsAlong scene entries facts
+  pub last_counted : Counts (state_after (opening scene) entries) last
+  pub written : Appends old new (report_told scene entries facts last form)
+  pub fixes : form ≡ History → TellsOnly scene entries (report scene entries History)
+
 -- the run of a plan is one such history
-pub record IsWholeRun (order : Order) (scene : SceneValue) : Type 0 where
+pub record IsRunOfPlan (order : Order) (scene : SceneValue) : Type 0 where
   pub run : Run
   pub run_is : outturn_of order scene ≡ ran run
   pub state_is : run.state ≡ state_after (opening scene) run.entries
   pub history : IsSequentialHistory scene run.entries
+
+-- and its report was written
+pub record ReportsRun (order : Order) (form : Form) (scene : SceneValue) (old new : Option (List ℕ)) : Type 0 where
+  pub whole : IsRunOfPlan order scene
+  pub report : IsReportOf form scene whole.run.entries old new
 
 -- The run has as many entries as a run may have, and is not at its end.
 pub record IsEndless (order : Order) (scene : SceneValue) : Type 0 where
@@ -122,6 +147,11 @@ abbrev pub AppendsSomeDue : Option Plan → Option (List ℕ) → (old new : Opt
 AppendsSomeDue None input old new = AppendsSome old new usage_text
 AppendsSomeDue (Some plan) None old new = ⊤
 AppendsSomeDue (Some plan) (Some input) old new = AppendsSome old new (due plan input).text
+
+-- a command whose input has more bytes than the limit is told so, unless a read failed or memory was wanted
+abbrev pub TellsLong : Option (List ℕ) → ℕ → Status → Type 0
+TellsLong None limit result = ⊤
+TellsLong (Some input) limit result = limit < length input → (result ≡ status.InputTooLong) ⊎ (result ≡ status.ReadFault) ⊎ (result ≡ status.NoMemory)
 
 -- a command whose input is within the limit gets what is due, unless a read or a write failed or memory was wanted
 abbrev pub GetsDue : Option Plan → Option (List ℕ) → ℕ → Status → Type 0

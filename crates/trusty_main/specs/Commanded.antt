@@ -1,6 +1,6 @@
 -- What is due for a command and an input. For a run by threads it is the report of some history, whatever turns the threads
 -- take; for the other commands it is one text.
-use Rattle.std.specs.Prelude.{◌≡◌, ◌++◌, ◌⊎◌, ◌≤◌, ◌≢◌, ℕ, List, false, length, Option, Some, None, Result, Ok, Err, ⊤, if◌then◌else◌}
+use Rattle.std.specs.Prelude.{◌≡◌, ◌⊎◌, ◌≤◌, ◌≢◌, ℕ, List, false, length, Option, Some, None, Result, Ok, Err, ⊤, if◌then◌else◌}
 use Rattle.std.specs.Io.KnownBytes.{Appends, Keeps}
 use Rattle.command_line.specs.declared.command.Command.{Command}
 use Rattle.command_line.specs.declared.command.Command.TheVariants as command
@@ -15,7 +15,7 @@ use Rattle.report_text.specs.Forms.{report}
 use Rattle.report_text.specs.declared.form.Form.{Form}
 use Rattle.scene_reader.specs.Whole.{scene_of}
 use Rattle.script_lines.specs.declared.fault.SceneFault.{SceneFault}
-use Rattle.trusty_main.specs.Answers.{AppendsSome, Crosses, IsSequentialHistory, Tells, Told}
+use Rattle.trusty_main.specs.Answers.{AppendsSome, Crosses, IsReportOf, IsSequentialHistory, Tells, Told}
 use Rattle.trusty_main.specs.Due.{Due, due_of_run}
 use Rattle.trusty_main.specs.Plans.{outturn_of}
 use Rattle.trusty_main.specs.Texts.{fault_text, too_long_text, usage_text}
@@ -82,11 +82,12 @@ form_of (command.Serial form) = form
 form_of (command.Replay form) = form
 form_of (command.Run form) = form
 
--- The bytes that were written are the report of such a history.
+-- The bytes that were written are the report of such a history, with the counts after each of its steps.
 pub record IsReported (form : Form) (scene : SceneValue) (old new : Option (List ℕ)) : Type 0 where
   pub entries : List Entry
   pub history : IsSequentialHistory scene entries
   pub appended : Appends old new (report scene entries form)
+  pub report : IsReportOf form scene entries old new
 
 -- something that is due was told, as far as it went; or memory was wanted before
 abbrev pub TellsSome : (Due → Type 0) → (old new : Option (List ℕ)) (before now : ℕ) → Status → Type 0

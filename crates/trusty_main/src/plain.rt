@@ -1,13 +1,13 @@
 //! The commands that take no threads: from the words and the input to what is written and the status.
 
-ghost use Rattle.std.specs.Prelude.{◌≡◌, ◌≢◌, ◌≤◌, ◌⊎◌, Some, None, Ok, map, length, string_bytes, IfOk, IfSome};
+ghost use Rattle.std.specs.Prelude.{◌≡◌, ◌≢◌, ◌+◌, ◌≤◌, ◌⊎◌, max, Some, None, Ok, map, length, string_bytes, IfOk, IfSome};
 ghost use Rattle.std.specs.Io.KnownBytes.{Appends, Keeps, IsAtEnd};
 ghost use Rattle.outside_io.specs.Faults.{Rose};
 ghost use Rattle.outside_io.specs.Reading.{TakesMore};
 ghost use Rattle.scene_reader.specs.Whole.{scene_of};
 ghost use Rattle.kernel_types.specs.Opening.{opening};
 ghost use Rattle.kernel_types.specs.Turns.{history_limit};
-ghost use Rattle.trusty_main.specs.Answers.{IsWholeRun, IsEndless, Told, Tells, HasPlan, HasScene, AppendsSomeDue, GetsDue};
+ghost use Rattle.trusty_main.specs.Answers.{IsRunOfPlan, IsEndless, ReportsRun, Told, Tells, TellsLong, HasPlan, HasScene, AppendsSomeDue, GetsDue};
 ghost use Rattle.trusty_main.specs.Due.{due, due_of_scene, due_of_run};
 ghost use Rattle.trusty_main.specs.Plans.{plan_in, outturn_of};
 ghost use Rattle.trusty_main.specs.Texts.{usage_text};
@@ -17,7 +17,7 @@ use crate::status::Status;
 use crate::telling::{tell_fault, tell_report, tell_too_long, tell_turn, tell_usage};
 use kernel_types::IpcKernel;
 use kernel_types::values::{NoMemory, Scene};
-use outside_io::{INPUT_LIMIT, ReadRefused, Sink, Source, read_all};
+use outside_io::{INPUT_LIMIT, READ_SIZE, ReadRefused, Sink, Source, read_all};
 use program_kernel::kernel_of;
 use report_text::Form;
 use runners::{ReplayRefused, RunRefused, replay, serial};
@@ -27,16 +27,22 @@ use std::alloc::Global;
 
 /// Runs the command that the words give: reads a scene to the source's end, runs it, and writes the
 /// report. `run` takes threads, and is no command here.
+#[tactic(auto, using(crate::proofs::Reporting::within_limit, crate::proofs::Reporting::long_told, crate::proofs::Reporting::long_failed, crate::proofs::Reporting::long_unread, crate::proofs::Reporting::if_any, crate::proofs::Reporting::unread))]
 pub fn trusty_plain<S: Source, K: Sink>(
     alloc: Global,
     words: &[String],
     source: &mut S,
     sink: &mut K,
 ) -> Status
-    // The bytes written are the report of a legal and whole history of the scene that was left.
+    // The bytes written are the report of the run of the scene that was left: a legal and whole history, after every step
+    // of which each object that is there is named, and an ended application names none; frames cross in order.
     ensures done { result ≡ Status.Done → HasPlan (plan_in (map string_bytes words.now)) (λ plan. IfSome (S.left source.old) (λ input. Told (due plan input) Status.Done (K.written sink.old) (K.written sink.new)
-        × HasScene (scene_of input) (λ scene. IsWholeRun plan.order scene)))
+        × HasScene (scene_of input) (λ scene. IsRunOfPlan plan.order scene)))
         × IsAtEnd (S.left source.new) }
+
+    // The report was written by the counts that the kernel gave after each step, and in the history form it is the report of
+    // no other history.
+    ensures reported { result ≡ Status.Done → HasPlan (plan_in (map string_bytes words.now)) (λ plan. IfSome (S.left source.old) (λ input. HasScene (scene_of input) (λ scene. ReportsRun plan.order plan.form scene (K.written sink.old) (K.written sink.new)))) }
     ensures input_refused { result ≡ Status.InputRefused → HasPlan (plan_in (map string_bytes words.now)) (λ plan. IfSome (S.left source.old) (λ input. Told (due plan input) Status.InputRefused (K.written sink.old) (K.written sink.new)))
         × IsAtEnd (S.left source.new) }
     ensures usage { result ≡ Status.Usage → (plan_in (map string_bytes words.now) ≡ None) × Appends (K.written sink.old) (K.written sink.new) usage_text × (source.new ≡ source.old) }
@@ -57,6 +63,12 @@ pub fn trusty_plain<S: Source, K: Sink>(
     // no read and no write failed and memory was there.
     ensures no_command { plan_in (map string_bytes words.now) ≡ None → (result ≡ Status.Usage) ⊎ (result ≡ Status.WriteFault) ⊎ (result ≡ Status.NoMemory) }
     ensures complete { GetsDue (plan_in (map string_bytes words.now)) (S.left source.old) INPUT_LIMIT result }
+    ensures past_limit { IfSome (plan_in (map string_bytes words.now)) (λ _. TellsLong (S.left source.old) INPUT_LIMIT result) }
+
+    // One read for each byte and one more, at most, and none asks for more than a piece.
+    ensures reads { S.calls source.new ≤ S.calls source.old + INPUT_LIMIT + 1 }
+    ensures reads_of { IfSome (S.left source.old) (λ input. S.calls source.new ≤ S.calls source.old + length input + 1) }
+    ensures asked { S.asked source.new ≤ max (S.asked source.old) READ_SIZE }
 {
     let plan = match plan_of(alloc, words) {
         Ok(Some(plan)) => plan,
@@ -77,7 +89,8 @@ pub fn trusty_plain<S: Source, K: Sink>(
 fn answer<K: Sink>(alloc: Global, plan: Plan, input: &[u8], sink: &mut K) -> Status
     requires { length input.now ≤ INPUT_LIMIT }
     ensures tells { Tells (due plan input.now) (K.written sink.old) (K.written sink.new) (K.faults sink.old) (K.faults sink.new) result }
-    ensures done { result ≡ Status.Done → HasScene (scene_of input.now) (λ scene. IsWholeRun plan.order scene) }
+    ensures done { result ≡ Status.Done → HasScene (scene_of input.now) (λ scene. IsRunOfPlan plan.order scene) }
+    ensures reported { result ≡ Status.Done → HasScene (scene_of input.now) (λ scene. ReportsRun plan.order plan.form scene (K.written sink.old) (K.written sink.new)) }
     ensures endless { result ≡ Status.RunTooLong → HasScene (scene_of input.now) (λ scene. IsEndless plan.order scene) }
 {
     match read_scene(alloc, input) {
@@ -93,7 +106,8 @@ fn answer<K: Sink>(alloc: Global, plan: Plan, input: &[u8], sink: &mut K) -> Sta
 fn run<K: Sink>(alloc: Global, plan: Plan, scene: &Scene, sink: &mut K) -> Status
     requires turns { length scene.now.turns ≤ history_limit }
     ensures tells { Tells (due_of_scene plan (Ok scene.now)) (K.written sink.old) (K.written sink.new) (K.faults sink.old) (K.faults sink.new) result }
-    ensures done { result ≡ Status.Done → IsWholeRun plan.order scene.now }
+    ensures done { result ≡ Status.Done → IsRunOfPlan plan.order scene.now }
+    ensures reported { result ≡ Status.Done → ReportsRun plan.order plan.form scene.now (K.written sink.old) (K.written sink.new) }
     ensures endless { result ≡ Status.RunTooLong → IsEndless plan.order scene.now }
 {
     let Ok(kernel) = kernel_of(alloc, scene) else {
@@ -116,7 +130,8 @@ fn run_serially<C: IpcKernel + Drop, K: Sink>(
     requires state { C.state kernel ≡ opening scene.now }
     requires made { C.made kernel ≡ 0 }
     ensures tells { Tells (due_of_run scene.now form (outturn_of Order.Serial scene.now)) (K.written sink.old) (K.written sink.new) (K.faults sink.old) (K.faults sink.new) result }
-    ensures done { result ≡ Status.Done → IsWholeRun Order.Serial scene.now }
+    ensures done { result ≡ Status.Done → IsRunOfPlan Order.Serial scene.now }
+    ensures reported { result ≡ Status.Done → ReportsRun Order.Serial form scene.now (K.written sink.old) (K.written sink.new) }
     ensures endless { result ≡ Status.RunTooLong → IsEndless Order.Serial scene.now }
 {
     match serial(alloc, kernel, scene) {
@@ -145,7 +160,8 @@ fn run_turns<C: IpcKernel + Drop, K: Sink>(
     requires made { C.made kernel ≡ 0 }
     requires turns { length scene.now.turns ≤ history_limit }
     ensures tells { Tells (due_of_run scene.now form (outturn_of Order.Replay scene.now)) (K.written sink.old) (K.written sink.new) (K.faults sink.old) (K.faults sink.new) result }
-    ensures done { result ≡ Status.Done → IsWholeRun Order.Replay scene.now }
+    ensures done { result ≡ Status.Done → IsRunOfPlan Order.Replay scene.now }
+    ensures reported { result ≡ Status.Done → ReportsRun Order.Replay form scene.now (K.written sink.old) (K.written sink.new) }
     ensures endless { result ≡ Status.RunTooLong → IsEndless Order.Replay scene.now }
 {
     match replay(alloc, kernel, scene) {

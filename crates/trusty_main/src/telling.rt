@@ -1,12 +1,12 @@
 //! What is written: a report, or a line that says why there is none.
 
-ghost use Rattle.std.specs.Prelude.{◌≡◌, ◌≢◌, ◌≤◌, ◌⊎◌};
+ghost use Rattle.std.specs.Prelude.{◌≡◌, ◌≢◌, ◌≤◌, ◌⊎◌, OnOk};
 ghost use Rattle.std.specs.Io.KnownBytes.{Appends};
 ghost use Rattle.outside_io.specs.Faults.{Rose};
 ghost use Rattle.kernel_types.specs.Opening.{opening};
 ghost use Rattle.report_text.specs.Forms.{report};
 ghost use Rattle.report_text.specs.Printing.{Prints};
-ghost use Rattle.trusty_main.specs.Answers.{Tells, AppendsSome};
+ghost use Rattle.trusty_main.specs.Answers.{Tells, AppendsSome, IsReportOf};
 ghost use Rattle.trusty_main.specs.Texts.{usage_text, fault_text, turn_text, too_long_text};
 
 use crate::status::Status;
@@ -78,7 +78,8 @@ fn print<C: IpcKernel + Drop, K: Sink>(
     sink: &mut K,
 ) -> Result<(), PrintRefused>
     requires { logged.now.origin.state ≡ opening scene.now }
-    ensures { Prints (K.written sink.old) (K.written sink.new) (K.faults sink.old) (K.faults sink.new) (K.calls sink.old) (K.calls sink.new) result (report scene.now logged.now.journal.entries form) }
+    ensures prints { Prints (K.written sink.old) (K.written sink.new) (K.faults sink.old) (K.faults sink.new) (K.calls sink.old) (K.calls sink.new) result (report scene.now logged.now.journal.entries form) }
+    ensures reports { OnOk result (IsReportOf form scene.now logged.now.journal.entries (K.written sink.old) (K.written sink.new)) }
 {
     logged.legal();
     let end = logged.kernel().end_facts();
@@ -96,6 +97,7 @@ pub fn tell_report<C: IpcKernel + Drop, K: Sink>(
     requires { logged.now.origin.state ≡ opening scene.now }
     ensures tells { Tells (record { status = Status.Done; text = report scene.now logged.now.journal.entries form }) (K.written sink.old) (K.written sink.new) (K.faults sink.old) (K.faults sink.new) result }
     ensures only { (result ≢ Status.RunTooLong) × (result ≢ Status.TurnRefused) }
+    ensures reports { result ≡ Status.Done → IsReportOf form scene.now logged.now.journal.entries (K.written sink.old) (K.written sink.new) }
 {
     match print(alloc, form, scene, logged, sink) {
         Ok(()) => Status::Done,

@@ -1,13 +1,14 @@
 //! The top call: from the words and the input to what is written and the status.
 
-ghost use Rattle.std.specs.Prelude.{◌≡◌, ◌≢◌, ◌≤◌, ◌⊎◌, Some, None, Ok, map, length, string_bytes, IfNone, IfSome};
+ghost use Rattle.std.specs.Prelude.{◌≡◌, ◌≢◌, ◌+◌, ◌≤◌, ◌⊎◌, max, Some, None, Ok, map, length, string_bytes, IfNone, IfSome};
 ghost use Rattle.std.specs.Io.KnownBytes.{Appends, Keeps, IsAtEnd};
 ghost use Rattle.outside_io.specs.Faults.{Rose};
 ghost use Rattle.outside_io.specs.Reading.{TakesMore};
 ghost use Rattle.command_line.specs.Commands.{command_in};
 ghost use Rattle.scene_reader.specs.Whole.{scene_of};
-ghost use Rattle.trusty_main.specs.Answers.{HasScene};
+ghost use Rattle.trusty_main.specs.Answers.{HasScene, IsEndless, ReportsRun, TellsLong};
 ghost use Rattle.trusty_main.specs.Commanded.{AppendsSomeOf, GetsDueOf, HasCommand, IsDue, IsDueOfScene, IsPlain, IsReported, TellsSome, ToldOf, form_of};
+ghost use Rattle.trusty_main.specs.Plans.{plan_in};
 ghost use Rattle.trusty_main.specs.Texts.{usage_text};
 
 use crate::plain::trusty_plain;
@@ -15,7 +16,7 @@ use crate::status::Status;
 use crate::telling::{tell_fault, tell_report, tell_too_long};
 use command_line::{Command, command_of};
 use kernel_types::values::Scene;
-use outside_io::{INPUT_LIMIT, ReadRefused, Sink, Source, read_all};
+use outside_io::{INPUT_LIMIT, READ_SIZE, ReadRefused, Sink, Source, read_all};
 use program_kernel::kernel_of;
 use report_text::Form;
 use runners::{Hook, RunRefused, threads};
@@ -27,6 +28,7 @@ use std::thread::Threads;
 /// Runs the command that the words give: reads a scene to the source's end, runs it, and writes the
 /// report. For `run` each actor has a thread of its own, and the hook is called before each of its calls;
 /// that this returns is not promised. Every other command takes no threads and always returns.
+#[tactic(auto, using(crate::proofs::Reporting::if_any, crate::proofs::Reporting::long_unread, crate::proofs::Reporting::unread))]
 pub fn trusty<R: Threads + Wait + Sync, S: Source, K: Sink, H: Hook + Sync>(
     rt: &R,
     alloc: Global,
@@ -37,9 +39,17 @@ pub fn trusty<R: Threads + Wait + Sync, S: Source, K: Sink, H: Hook + Sync>(
 ) -> Status
     // Whatever turns the threads take, the bytes written are the report of one legal history of the sequential kernel,
     // in which each actor's calls are its script's, each once, in its order, to its end; and after every step of that
-    // history each object's count is the number of entries that name it, and an ended application names none.
+    // history each object's count, as the kernel gave it there, is the number of entries that name it, each object that
+    // is there is named by some entry, and an ended application names none. Where clients write memory and rings through
+    // the driver alone, what crosses the bridge in it is carried in order. In the history form no other history has this
+    // report.
     ensures done { result ≡ Status.Done → HasCommand (command_in (map string_bytes words.now)) (λ command. IfSome (S.left source.old) (λ input. HasScene (scene_of input) (λ scene. IsReported (form_of command) scene (K.written sink.old) (K.written sink.new))))
         × IsAtEnd (S.left source.new) }
+
+    // Of `serial` and `replay` that history is the run of their turns, in every form; and one that is too long has as many
+    // legal entries as a run may have, by the scripts.
+    ensures reported { result ≡ Status.Done → IfSome (plan_in (map string_bytes words.now)) (λ plan. IfSome (S.left source.old) (λ input. HasScene (scene_of input) (λ scene. ReportsRun plan.order plan.form scene (K.written sink.old) (K.written sink.new)))) }
+    ensures endless { result ≡ Status.RunTooLong → IfSome (plan_in (map string_bytes words.now)) (λ plan. IfSome (S.left source.old) (λ input. HasScene (scene_of input) (λ scene. IsEndless plan.order scene))) }
 
     // What is told is what is due: of `serial` and `replay` the one text, of `run` that of some history.
     ensures told { result ≡ Status.Done → HasCommand (command_in (map string_bytes words.now)) (λ command. IfSome (S.left source.old) (λ input. ToldOf command input Status.Done (K.written sink.old) (K.written sink.new))) }
@@ -62,6 +72,12 @@ pub fn trusty<R: Threads + Wait + Sync, S: Source, K: Sink, H: Hook + Sync>(
     // no read and no write failed and memory was there.
     ensures no_command { command_in (map string_bytes words.now) ≡ None → (result ≡ Status.Usage) ⊎ (result ≡ Status.WriteFault) ⊎ (result ≡ Status.NoMemory) }
     ensures complete { GetsDueOf (command_in (map string_bytes words.now)) (S.left source.old) INPUT_LIMIT result }
+    ensures past_limit { IfSome (command_in (map string_bytes words.now)) (λ _. TellsLong (S.left source.old) INPUT_LIMIT result) }
+
+    // One read for each byte and one more, at most, and none asks for more than a piece.
+    ensures reads { S.calls source.new ≤ S.calls source.old + INPUT_LIMIT + 1 }
+    ensures reads_of { IfSome (S.left source.old) (λ input. S.calls source.new ≤ S.calls source.old + length input + 1) }
+    ensures asked { S.asked source.new ≤ max (S.asked source.old) READ_SIZE }
 {
     let command = match command_of(alloc, words) {
         Ok(command) => command,
@@ -87,7 +103,7 @@ fn threaded(command: Option<Command>) -> Option<Form>
 }
 
 // Reads a scene and runs it by threads.
-#[tactic(auto, using(crate::proofs::Commanding::run_later, crate::proofs::Commanding::run_no_usage, crate::proofs::Commanding::run_no_fault, crate::proofs::Commanding::run_done, crate::proofs::Commanding::run_told, crate::proofs::Commanding::run_refused, crate::proofs::Commanding::run_turn, crate::proofs::Commanding::run_endless, crate::proofs::Commanding::run_fault, crate::proofs::Commanding::run_memory, crate::proofs::Commanding::run_gets))]
+#[tactic(auto, using(crate::proofs::Reporting::within_limit, crate::proofs::Reporting::long_told, crate::proofs::Reporting::long_failed, crate::proofs::Reporting::long_unread, crate::proofs::Reporting::unread, crate::proofs::Commanding::run_later, crate::proofs::Commanding::run_no_usage, crate::proofs::Commanding::run_no_fault, crate::proofs::Commanding::run_told, crate::proofs::Commanding::run_refused, crate::proofs::Commanding::run_turn, crate::proofs::Commanding::run_endless, crate::proofs::Commanding::run_fault, crate::proofs::Commanding::run_memory, crate::proofs::Commanding::run_gets))]
 fn run<R: Threads + Wait + Sync, S: Source, K: Sink, H: Hook + Sync>(
     rt: &R,
     alloc: Global,
@@ -108,6 +124,10 @@ fn run<R: Threads + Wait + Sync, S: Source, K: Sink, H: Hook + Sync>(
     ensures input_too_long { result ≡ Status.InputTooLong → TakesMore INPUT_LIMIT (S.left source.old) (S.left source.new) × Keeps (K.written sink.old) (K.written sink.new) }
     ensures later { (S.faults source.old ≤ S.faults source.new) × (K.faults sink.old ≤ K.faults sink.new) }
     ensures complete { GetsDueOf (Some (Command.Run form)) (S.left source.old) INPUT_LIMIT result }
+    ensures past_limit { TellsLong (S.left source.old) INPUT_LIMIT result }
+    ensures reads { S.calls source.new ≤ S.calls source.old + INPUT_LIMIT + 1 }
+    ensures reads_of { IfSome (S.left source.old) (λ input. S.calls source.new ≤ S.calls source.old + length input + 1) }
+    ensures asked { S.asked source.new ≤ max (S.asked source.old) READ_SIZE }
 {
     let input = match read_all(alloc, source) {
         Ok(input) => input,
@@ -130,6 +150,7 @@ fn answer<R: Threads + Wait + Sync, K: Sink, H: Hook + Sync>(
 ) -> Status
     requires { length input.now ≤ INPUT_LIMIT }
     ensures tells { TellsSome (IsDue (Command.Run form) input.now) (K.written sink.old) (K.written sink.new) (K.faults sink.old) (K.faults sink.new) result }
+    ensures done { result ≡ Status.Done → HasScene (scene_of input.now) (λ scene. IsReported form scene (K.written sink.old) (K.written sink.new)) }
 {
     match read_scene(alloc, input) {
         Ok(scene) => {
@@ -152,6 +173,7 @@ fn run_scene<R: Threads + Wait + Sync, K: Sink, H: Hook + Sync>(
     hook: &H,
 ) -> Status
     ensures tells { TellsSome (IsDueOfScene (Command.Run form) (Ok scene.now)) (K.written sink.old) (K.written sink.new) (K.faults sink.old) (K.faults sink.new) result }
+    ensures done { result ≡ Status.Done → IsReported form scene.now (K.written sink.old) (K.written sink.new) }
 {
     let Ok(kernel) = kernel_of(alloc, scene) else {
         return Status::NoMemory;
