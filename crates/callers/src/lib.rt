@@ -2,6 +2,7 @@
 //! rely on. docs/LIBRARIES.md shows them beside the libraries' own contracts.
 #![tactic(auto)]
 
+mod checks;
 mod frames;
 mod gates;
 mod kernels;
@@ -12,6 +13,7 @@ mod rings;
 mod stores;
 mod tables;
 
+pub use checks::entries_that_hold;
 pub use frames::asked_path;
 pub use gates::finish_through;
 pub use kernels::pass_time;
