@@ -144,6 +144,8 @@ fn run_serially<C: IpcKernel + Drop, K: Sink>(
             drop(cut);
             tell_too_long(sink)
         }
+        // No scene that was read has a client that comes to this, by a law of `scene_laws`.
+        Err(RunRefused::Unlawful) => Status::NoMemory,
         Err(RunRefused::NoMemory) => Status::NoMemory,
     }
 }
