@@ -75,7 +75,7 @@ fn take<K: IpcKernel + Drop>(shared: &mut Shared<K>, actor: u32, turn: Turn) -> 
         Taken::Stepped => Round::Stepped {
             answered: shared.last_answers(actor),
         },
-        // As in the serial order, by the same law and under the same premise.
+        // As in the serial order: a client's call that writes memory or a ring by itself.
         Taken::Unlawful => Round::NoMemory,
     }
 }
