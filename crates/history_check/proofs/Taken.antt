@@ -24,7 +24,7 @@ use Rattle.report_text.specs.Plain.{IsWord}
 use Rattle.report_text.proofs.Lawful.{scripts_of_scene}
 use Rattle.report_text.proofs.NamesApart.{AreApart, actors_apart, actors_plain}
 use Rattle.runners.specs.Places.{first_place}
-use Rattle.runners.proofs.Counting.{actors_stay}
+use Rattle.run_laws.proofs.Counting.{actors_stay}
 use Rattle.runners.proofs.Starting.{actors_many, few_scripts}
 use Rattle.history_check.specs.declared.actors.Actors.{Actors}
 use Rattle.history_check.specs.declared.verdict.Verdict.{Verdict}

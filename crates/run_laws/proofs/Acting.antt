@@ -40,11 +40,12 @@ use Rattle.step_laws.proofs.Outcomes.{Comes}
 use Rattle.step_laws.proofs.Leaving.{Quiet, quiet, quiet_of, row_leaves, starts_stay}
 use Rattle.step_laws.proofs.TurnLeaving.{comes_quiet}
 use Rattle.step_laws.proofs.Steps.{none_yet}
+use Rattle.run_laws.proofs.Finals.{Answers, IsFinal, accept_answers, close_answers, cookie_answers, del_answers, dup_answers, get_answers, memref_answers, mod_answers, mread_answers, mwrite_answers, port_answers, put_answers, read_answers, send_answers}
 
 -- what is to hold of an answer and the state that comes with it, after a call of the thread `k` in the state `c`
 pub record Upheld (c : CoreState) (k : ℕ) : Type 1 where
   pub holds : Answer → CoreState → Type 0
-  pub quiet : (given : Answer) (d : CoreState) → Quiet c d → holds given d
+  pub quiet : (given : Answer) (d : CoreState) → IsFinal given → Quiet c d → holds given d
   pub waits : (d : CoreState) (w : Wait) → Quiet c d → holds answer.Waits (with_activity (waiting_activity w) k d)
   pub begun : (given : Answer) (d : CoreState) (app : ℕ) → holds given d → holds given (started app d)
 
@@ -52,11 +53,11 @@ module _ (c : CoreState) (k : ℕ) (U : Upheld c k) where
   record Upholds (outcome : Outcome) : Type 0 where
     upheld : U.holds outcome.answer outcome.core
 
-  by_quiet : (o : Outcome) → Quiet c o.core → Upholds o
-  by_quiet o q = record { upheld = U.quiet o.answer o.core q }
+  by_quiet : (o : Outcome) → Answers o → Quiet c o.core → Upholds o
+  by_quiet o final q = record { upheld = U.quiet o.answer o.core final q }
 
-  by_comes : {app : ℕ} {reads : Bool} (o : Outcome) → Comes (Some app) reads c o → Upholds o
-  by_comes o comes = by_quiet o (comes_quiet c o comes)
+  by_comes : {app : ℕ} {reads : Bool} (o : Outcome) → Answers o → Comes (Some app) reads c o → Upholds o
+  by_comes o final comes = by_quiet o final (comes_quiet c o comes)
 
   by_wait : (d : CoreState) (on : WaitOn) (deadline : Option ℕ) → Quiet c d → Upholds (waits_on k on deadline d)
   by_wait d on deadline q = record { upheld = U.waits d (new_wait on deadline) q }
@@ -72,7 +73,7 @@ module _ (c : CoreState) (k : ℕ) (U : Upheld c k) where
 
   up_connected : (app : ℕ) (flags : ConnectFlags) (made : CoreState) → Quiet c made → Upholds (connected c k app flags made)
   up_connected app flags made q =
-      by_if (is_asynchronous flags) _ _ (by_quiet _ (installed made app c.next q)) (by_wait (install app c.next made) (wait_on.Connect c.next (free_handle (table_of c app))) None (installed made app c.next q))
+      by_if (is_asynchronous flags) _ _ (by_quiet _ refl (installed made app c.next q)) (by_wait (install app c.next made) (wait_on.Connect c.next (free_handle (table_of c app))) None (installed made app c.next q))
 
   served : (given : Answer) (place : ℕ) (app : Option Application) (d : CoreState) → U.holds given d → U.holds given (started_unless_running place app d)
   served given place None d u = u
@@ -83,41 +84,41 @@ module _ (c : CoreState) (k : ℕ) (U : Upheld c k) where
 
   up_connect_by : (way : Way) (app : ℕ) (path : List ℕ) (flags : ConnectFlags) → Upholds (connect_by way c k app path flags)
   up_connect_by (to_port id port) app path flags =
-      by_if (not (admits port.flags (connector.App app))) _ _ (by_quiet _ (quiet c)) (by_if (is_full (table_of c app)) _ _ (by_quiet _ (quiet c))
+      by_if (not (admits port.flags (connector.App app))) _ _ (by_quiet _ refl (quiet c)) (by_if (is_full (table_of c app)) _ _ (by_quiet _ refl (quiet c))
       (up_connected app flags (pending_pair (connector.App app) id port c) (record { threads = refl; starts = refl })))
   up_connect_by (to_start place start) app path flags =
-      by_if (not (admits start (connector.App app))) _ _ (by_quiet _ (quiet c)) (by_if (is_full (table_of c app)) _ _ (by_quiet _ (quiet c))
+      by_if (not (admits start (connector.App app))) _ _ (by_quiet _ refl (quiet c)) (by_if (is_full (table_of c app)) _ _ (by_quiet _ refl (quiet c))
       (up_and_started place _ (up_connected app flags (waiting_client (connector.App app) path c) (record { threads = refl; starts = refl }))))
   up_connect_by to_nothing app path flags =
-      by_if (not (waits_for_port flags)) _ _ (by_quiet _ (quiet c)) (by_if (is_full (table_of c app)) _ _ (by_quiet _ (quiet c))
+      by_if (not (waits_for_port flags)) _ _ (by_quiet _ refl (quiet c)) (by_if (is_full (table_of c app)) _ _ (by_quiet _ refl (quiet c))
       (up_connected app flags (waiting_client (connector.App app) path c) (record { threads = refl; starts = refl })))
 
   up_connect : (app : ℕ) (path : List ℕ) (flags : ConnectFlags) → Upholds (connect c k app path flags)
   unfolding connect
-  up_connect app path flags = by_if (not (is_path path)) _ _ (by_quiet _ (quiet c)) (up_connect_by (way_of c path) app path flags)
+  up_connect app path flags = by_if (not (is_path path)) _ _ (by_quiet _ refl (quiet c)) (up_connect_by (way_of c path) app path flags)
 
   -- sets
 
   up_set : (app : ℕ) → Upholds (set_create c app)
   unfolding set_create
   up_set app =
-      by_if (is_full (table_of c app)) _ _ (by_quiet _ (quiet c))
-      (by_quiet _ (installed (added (body.Set (record { members = [] })) c) app c.next (record { threads = refl; starts = refl })))
+      by_if (is_full (table_of c app)) _ _ (by_quiet _ refl (quiet c))
+      (by_quiet _ refl (installed (added (body.Set (record { members = [] })) c) app c.next (record { threads = refl; starts = refl })))
 
   up_add_member : (id : ℕ) (set : HandleSet) (m : Member) → Upholds (set_add_member c id set m)
   up_add_member id set m =
-      by_if (is_or_contains c.objects m.object id) _ _ (by_quiet _ (quiet c)) (by_if (is_some (memory_of c.objects m.object)) _ _ (by_quiet _ (quiet c))
-      (by_if (is_label_in set.members m.label) _ _ (by_quiet _ (quiet c)) (by_if (nat_lt chain_limit (chain_through c.objects id m.object)) _ _ (by_quiet _ (quiet c))
-      (by_if (nat_le member_limit (length set.members)) _ _ (by_quiet _ (quiet c)) (by_quiet _ (record { threads = refl; starts = refl }))))))
+      by_if (is_or_contains c.objects m.object id) _ _ (by_quiet _ refl (quiet c)) (by_if (is_some (memory_of c.objects m.object)) _ _ (by_quiet _ refl (quiet c))
+      (by_if (is_label_in set.members m.label) _ _ (by_quiet _ refl (quiet c)) (by_if (nat_lt chain_limit (chain_through c.objects id m.object)) _ _ (by_quiet _ refl (quiet c))
+      (by_if (nat_le member_limit (length set.members)) _ _ (by_quiet _ refl (quiet c)) (by_quiet _ refl (record { threads = refl; starts = refl }))))))
 
   up_add_to : (id : ℕ) (m : Member) (set : Option HandleSet) → Upholds (set_add_to c id set m)
-  up_add_to id m None = by_quiet _ (quiet c)
+  up_add_to id m None = by_quiet _ refl (quiet c)
   up_add_to id m (Some set) = up_add_member id set m
 
   up_add_entries : (handle : ℕ) (mask : Events) (cookie : ℕ) (set entry : Option TableEntry) → Upholds (set_add_entries c handle mask cookie set entry)
-  up_add_entries handle mask cookie None None = by_quiet _ (quiet c)
-  up_add_entries handle mask cookie None (Some entry) = by_quiet _ (quiet c)
-  up_add_entries handle mask cookie (Some set) None = by_quiet _ (quiet c)
+  up_add_entries handle mask cookie None None = by_quiet _ refl (quiet c)
+  up_add_entries handle mask cookie None (Some entry) = by_quiet _ refl (quiet c)
+  up_add_entries handle mask cookie (Some set) None = by_quiet _ refl (quiet c)
   up_add_entries handle mask cookie (Some set) (Some entry) = up_add_to set.object (new_member handle entry.object mask cookie) (set_of c.objects set.object)
 
   up_add : (app set handle : ℕ) (mask : Events) (cookie : ℕ) → Upholds (set_add c app set handle mask cookie)
@@ -127,14 +128,14 @@ module _ (c : CoreState) (k : ℕ) (U : Upheld c k) where
   -- wait and waitany
 
   up_or_report : (app : ℕ) (on : WaitOn) (timeout : Timeout) (reported : Option Reported) → ReportGoes app c reported → Upholds (wait_or_report c k on timeout reported)
-  up_or_report app on timeout (Some reported) goes = by_quiet _ (quiet_of c reported.core (row_leaves (Some app) c reported.core goes.row))
-  up_or_report app on timeout None goes = by_if (is_zero_timeout timeout) _ _ (by_quiet _ (quiet c)) (by_wait c on (deadline_of c.clock timeout) (quiet c))
+  up_or_report app on timeout (Some reported) goes = by_quiet _ refl (quiet_of c reported.core (row_leaves (Some app) c reported.core goes.row))
+  up_or_report app on timeout None goes = by_if (is_zero_timeout timeout) _ _ (by_quiet _ refl (quiet c)) (by_wait c on (deadline_of c.clock timeout) (quiet c))
 
   up_wait_entry : (app : ℕ) (timeout : Timeout) (entry : Option TableEntry) → Upholds (wait_entry c k app timeout entry)
-  up_wait_entry app timeout None = by_quiet _ (quiet c)
+  up_wait_entry app timeout None = by_quiet _ refl (quiet c)
   up_wait_entry app timeout (Some entry) =
       let on : WaitOn = wait_on.Object entry.object entry.handle entry.cookie in
-      by_if (is_some (memory_of c.objects entry.object)) _ _ (by_quiet _ (quiet c)) (up_or_report app on timeout (report_of c app on) (report_goes app c c (none_yet (Some app) c) on))
+      by_if (is_some (memory_of c.objects entry.object)) _ _ (by_quiet _ refl (quiet c)) (up_or_report app on timeout (report_of c app on) (report_goes app c c (none_yet (Some app) c) on))
 
   up_wait : (app handle : ℕ) (timeout : Timeout) → Upholds (wait c k app handle timeout)
   unfolding wait
@@ -143,7 +144,7 @@ module _ (c : CoreState) (k : ℕ) (U : Upheld c k) where
   up_wait_any : (app : ℕ) (timeout : Timeout) → Upholds (wait_any c k app timeout)
   unfolding wait_any
   up_wait_any app timeout = by_if (list_any (can_have_events c.objects) (table_of c app)) _ _
-      (up_or_report app wait_on.Any timeout (report_of c app wait_on.Any) (report_goes app c c (none_yet (Some app) c) wait_on.Any)) (by_quiet _ (quiet c))
+      (up_or_report app wait_on.Any timeout (report_of c app wait_on.Any) (report_goes app c c (none_yet (Some app) c) wait_on.Any)) (by_quiet _ refl (quiet c))
 
   -- every call that does not end the thread
 
@@ -153,23 +154,23 @@ module _ (c : CoreState) (k : ℕ) (U : Upheld c k) where
 
   up_act : (app : ℕ) (asked : Call) → is_ending asked ≡ false → UpholdsIf (act c k app asked)
   unfolding act
-  up_act app (call.PortCreate path bufs size flags) goes = by_comes _ (port_goes app c c (none_yet (Some app) c) path bufs size flags)
+  up_act app (call.PortCreate path bufs size flags) goes = by_comes _ (port_answers c app path bufs size flags) (port_goes app c c (none_yet (Some app) c) path bufs size flags)
   up_act app (call.Connect path flags) goes = up_connect app path flags
-  up_act app (call.Accept port) goes = by_comes _ (accept_goes app c c (none_yet (Some app) c) port)
-  up_act app (call.Send chan bytes parts) goes = by_comes _ (send_goes app c c (none_yet (Some app) c) chan bytes parts)
-  up_act app (call.Get chan) goes = by_comes _ (get_goes app c c (none_yet (Some app) c) chan)
-  up_act app (call.Read chan id offset room parts) goes = by_comes _ (read_goes app c c (none_yet (Some app) c) chan id offset room parts)
-  up_act app (call.Put chan id) goes = by_comes _ (put_goes app c c (none_yet (Some app) c) chan id)
-  up_act app (call.SetCookie handle cookie) goes = by_comes _ (cookie_goes app c c (none_yet (Some app) c) handle cookie)
-  up_act app (call.Close handle) goes = by_comes _ (close_goes app c c (none_yet (Some app) c) handle)
-  up_act app (call.Dup handle) goes = by_comes _ (dup_goes app c c (none_yet (Some app) c) handle)
+  up_act app (call.Accept port) goes = by_comes _ (accept_answers c app port) (accept_goes app c c (none_yet (Some app) c) port)
+  up_act app (call.Send chan bytes parts) goes = by_comes _ (send_answers c app chan bytes parts) (send_goes app c c (none_yet (Some app) c) chan bytes parts)
+  up_act app (call.Get chan) goes = by_comes _ (get_answers c app chan) (get_goes app c c (none_yet (Some app) c) chan)
+  up_act app (call.Read chan id offset room parts) goes = by_comes _ (read_answers c app chan id offset room parts) (read_goes app c c (none_yet (Some app) c) chan id offset room parts)
+  up_act app (call.Put chan id) goes = by_comes _ (put_answers c app chan id) (put_goes app c c (none_yet (Some app) c) chan id)
+  up_act app (call.SetCookie handle cookie) goes = by_comes _ (cookie_answers c app handle cookie) (cookie_goes app c c (none_yet (Some app) c) handle cookie)
+  up_act app (call.Close handle) goes = by_comes _ (close_answers c app handle) (close_goes app c c (none_yet (Some app) c) handle)
+  up_act app (call.Dup handle) goes = by_comes _ (dup_answers c app handle) (dup_goes app c c (none_yet (Some app) c) handle)
   up_act app call.SetCreate goes = up_set app
   up_act app (call.SetAdd set handle mask cookie) goes = up_add app set handle mask cookie
-  up_act app (call.SetDel set label) goes = by_comes _ (del_goes app c c (none_yet (Some app) c) set label)
-  up_act app (call.SetMod set label mask cookie) goes = by_comes _ (mod_goes app c c (none_yet (Some app) c) set label mask cookie)
-  up_act app (call.MemCreate size flags) goes = by_comes _ (memref_goes app c c (none_yet (Some app) c) size flags)
-  up_act app (call.MemRead handle offset len) goes = by_comes _ (mread_goes app c c (none_yet (Some app) c) handle offset len)
-  up_act app (call.MemWrite handle offset bytes) goes = by_comes _ (mwrite_goes app c c (none_yet (Some app) c) handle offset bytes)
+  up_act app (call.SetDel set label) goes = by_comes _ (del_answers c app set label) (del_goes app c c (none_yet (Some app) c) set label)
+  up_act app (call.SetMod set label mask cookie) goes = by_comes _ (mod_answers c app set label mask cookie) (mod_goes app c c (none_yet (Some app) c) set label mask cookie)
+  up_act app (call.MemCreate size flags) goes = by_comes _ (memref_answers c app size flags) (memref_goes app c c (none_yet (Some app) c) size flags)
+  up_act app (call.MemRead handle offset len) goes = by_comes _ (mread_answers c app handle offset len) (mread_goes app c c (none_yet (Some app) c) handle offset len)
+  up_act app (call.MemWrite handle offset bytes) goes = by_comes _ (mwrite_answers c app handle offset bytes) (mwrite_goes app c c (none_yet (Some app) c) handle offset bytes)
   up_act app (call.Wait handle timeout) goes = up_wait app handle timeout
   up_act app (call.WaitAny timeout) goes = up_wait_any app timeout
   up_act app (call.Exit code) goes = absurd (cc)

@@ -18,7 +18,18 @@ use Rattle.kernel_types.specs.Scripts.{Stand, with_number, read_register, value_
 use Rattle.kernel_types.specs.CoreStep.{act}
 use Rattle.step_laws.specs.Walks.{is_ending}
 use Rattle.run_laws.proofs.Callers.{IsKind, is_of_thread, is_of_client, of_thread, of_client, thread_body, client_body}
-use Rattle.run_laws.proofs.Places.{IsCallable, HasCall, HasCommand}
+
+-- every command's call is of this kind
+abbrev pub IsCallable : (Call → Bool) → List Command → Type 0
+IsCallable of_kind script = (place : ℕ) (command : Command) → slice_get script place ≡ Some command → of_kind command.call ≡ true
+
+-- a call is next
+abbrev pub HasCall : List Command → Stand → Type 0
+HasCall script stand = stand.position ≤ length script
+
+-- a command is next, and no exit
+abbrev pub HasCommand : List Command → Stand → Type 0
+HasCommand script stand = (command : Command) × (slice_get script stand.position ≡ Some command) × (is_exit command.call ≡ false)
 
 -- Registers change no call's kind.
 

@@ -1,4 +1,4 @@
--- Steps of clients, from a state in which every client stands at its script.
+-- Steps of clients, from a state in which every client stands.
 use Rattle.std.proofs.Common.{◌≡◌, ℕ, ◌+◌, ◌-◌, Bool, true, false, cond, List, [], ◌∷◌, ◌++◌, Option, Some, None, length, min, not, refl, ap, sym, ◌∙◌, subst, arith}
 use Rattle.std.proofs.lemmas.Bool.Decides.{nat_tests}
 use Rattle.std.specs.Prelude.{nat_lt, slice_get}
@@ -6,13 +6,13 @@ use Rattle.kernel_values.specs.Words.{is_path}
 use Rattle.kernel_values.specs.declared.call.Call.{Call}
 use Rattle.kernel_values.specs.declared.call.Call.TheVariants as call
 use Rattle.kernel_values.specs.declared.call.Timeout.{Timeout}
+use Rattle.kernel_values.specs.declared.entry.ActorStatus.TheVariants as status
 use Rattle.kernel_values.specs.declared.entry.Entry.{Entry}
 use Rattle.kernel_values.specs.declared.entry.Event.TheVariants as event
 use Rattle.kernel_values.specs.declared.errno.Errno.TheVariants as errno
 use Rattle.kernel_values.specs.declared.reply.Answer.{Answer}
 use Rattle.kernel_values.specs.declared.reply.Answer.TheVariants as answer
 use Rattle.kernel_values.specs.declared.reply.Reply.TheVariants as reply
-use Rattle.kernel_values.specs.declared.script.Command.{Command}
 use Rattle.kernel_values.specs.declared.state.State.{State}
 use Rattle.kernel_values.specs.declared.world.ClientActivity.{ClientActivity}
 use Rattle.kernel_values.specs.declared.world.ClientActivity.TheVariants as activity
@@ -29,23 +29,22 @@ use Rattle.kernel_types.specs.Drains.{connection_of, drained, from_normal_draine
 use Rattle.kernel_types.specs.Objects.{map_at}
 use Rattle.kernel_types.specs.Outcome.{no_seqs}
 use Rattle.kernel_types.specs.Sending.{frame, leave_frame, request_frame}
-use Rattle.kernel_types.specs.Step.{beside_core, client_begin, client_resume, full_step, runs_again, step}
-use Rattle.kernel_types.specs.Whole.{final_answer}
+use Rattle.kernel_types.specs.Step.{beside_core, client_begin, client_resume, client_status, full_step, runs_again, step}
 use Rattle.kernel_types.specs.Waits.{deadline_of, is_due, is_zero_timeout}
 use Rattle.step_laws.specs.Walks.{is_ending}
 use Rattle.run_laws.proofs.Callers.{is_of_client, client_built}
-use Rattle.run_laws.proofs.Calling.{IsNext}
-use Rattle.run_laws.proofs.ClientPlaces.{ClientFits, ClientStands, ClientsStand, one_changes, one_stays}
-use Rattle.run_laws.proofs.Longer.{IsOf, answered_fits, begin_is_of, resume_is_of, self_is, waits_fits}
-use Rattle.run_laws.proofs.Places.{HasCommand, stood}
+use Rattle.run_laws.proofs.ClientPlaces.{ClientStands, ClientsStand, one_changes, one_stays}
+use Rattle.run_laws.proofs.Finals.{IsFinal}
+use Rattle.run_laws.proofs.Longer.{FitsCall, IsOf, begin_is_of, entry_with, resume_is_of, self_is}
+use Rattle.run_laws.proofs.Standings.{Standings}
 
--- What a call of the client `k` leaves of the clients: they stay, or this one waits.
+-- What a call of the client `k` leaves of the clients: they stay and it is answered, or this one waits.
 data Leaves (k : ℕ) (w : World) (acted : Acted) : Type 0 where
-  stays : acted.world.clients ≡ w.clients → Leaves k w acted
+  stays : acted.world.clients ≡ w.clients → IsFinal acted.answer → Leaves k w acted
   waits : (wait : ClientWait) → acted.world.clients ≡ map_at (client_changed (client_waiting wait)) w.clients k → acted.answer ≡ answer.Waits → Leaves k w acted
 
 leaves_from : (k : ℕ) (u w : World) (acted : Acted) → u.clients ≡ w.clients → Leaves k u acted → Leaves k w acted
-leaves_from k u w acted same (stays is) = stays (is ∙ same)
+leaves_from k u w acted same (stays is final) = stays (is ∙ same) final
 leaves_from k u w acted same (waits wait is answer_is) = waits wait (is ∙ ap (λ clients. map_at (client_changed (client_waiting wait)) clients k) same) answer_is
 
 leaves_if : (k : ℕ) (w : World) (b : Bool) (one other : Acted) → Leaves k w one → Leaves k w other → Leaves k w (cond b one other)
@@ -59,11 +58,11 @@ drained_same w = refl
 -- a frame goes out, where there is a buffer for it
 
 sent_leaves : (k : ℕ) (w : World) (sent : List ℕ) (acted : Acted) → Leaves k w acted → Leaves k w (with_sent sent acted)
-sent_leaves k w sent acted (stays is) = stays is
+sent_leaves k w sent acted (stays is final) = stays is final
 sent_leaves k w sent acted (waits wait is answer_is) = waits wait is answer_is
 
 send_by_leaves : (k : ℕ) (w : World) (free sent : List ℕ) (after : World → Acted) → ((v : World) → v.clients ≡ w.clients → Leaves k w (after v)) → Leaves k w (send_by free sent after w)
-send_by_leaves k w [] sent after leaves = stays refl
+send_by_leaves k w [] sent after leaves = stays refl refl
 send_by_leaves k w (place ∷ rest) sent after leaves = sent_leaves k w sent (after (sent_in place rest sent w)) (leaves (sent_in place rest sent w) refl)
 
 send_leaves : (k : ℕ) (w : World) (sent : List ℕ) (after : World → Acted) → ((v : World) → v.clients ≡ w.clients → Leaves k w (after v)) → Leaves k w (send_frame sent after w)
@@ -74,47 +73,47 @@ connect_leaves : (k : ℕ) (w : World) (path : List ℕ) → Leaves k w (ns_conn
 unfolding ns_connect_call
 connect_leaves k w path =
     let asked : ClientWait = new_wait (wait_on.Connect (next_address w)) None in
-    leaves_if k w (not (is_path path)) _ _ (stays refl) (send_leaves k w (request_frame (next_address w) path) (asks k (next_address w))
+    leaves_if k w (not (is_path path)) _ _ (stays refl refl) (send_leaves k w (request_frame (next_address w) path) (asks k (next_address w))
     (λ v same. waits asked (ap (λ clients. map_at (client_changed (client_waiting asked)) clients k) same) refl))
 
 send_status_leaves : (k : ℕ) (w : World) (address : ℕ) (status : ConnectionStatus) (bytes : List ℕ) → Leaves k w (send_by_status address status bytes w)
-send_status_leaves k w address connection_status.Asked bytes = stays refl
+send_status_leaves k w address connection_status.Asked bytes = stays refl refl
 send_status_leaves k w address (connection_status.Established remote size) bytes =
-    leaves_if k w (nat_lt (min size send_limit) (length bytes)) _ _ (stays refl) (send_leaves k w (frame address remote bytes) (counts (length bytes)) (λ v same. stays same))
-send_status_leaves k w address (connection_status.Denied status) bytes = stays refl
-send_status_leaves k w address connection_status.Shut bytes = stays refl
+    leaves_if k w (nat_lt (min size send_limit) (length bytes)) _ _ (stays refl refl) (send_leaves k w (frame address remote bytes) (counts (length bytes)) (λ v same. stays same refl))
+send_status_leaves k w address (connection_status.Denied status) bytes = stays refl refl
+send_status_leaves k w address connection_status.Shut bytes = stays refl refl
 
 send_on_leaves : (k : ℕ) (w : World) (connection : Option Connection) (bytes : List ℕ) → Leaves k w (send_on connection bytes w)
-send_on_leaves k w None bytes = stays refl
+send_on_leaves k w None bytes = stays refl refl
 send_on_leaves k w (Some connection) bytes = send_status_leaves k w connection.address connection.status bytes
 
 send_call_leaves : (k : ℕ) (w : World) (conn : ℕ) (bytes : List ℕ) → Leaves k w (ns_send_call k conn bytes w)
 unfolding ns_send_call
 send_call_leaves k w conn bytes = send_on_leaves k w (own_connection k conn w) bytes
 
--- an answer of a connection leaves the clients
+-- an answer of a connection leaves the clients, and is one
 
 abbrev SameIf : World → Option Acted → Type 0
 SameIf w None = Unit {0}
-SameIf w (Some acted) = acted.world.clients ≡ w.clients
+SameIf w (Some acted) = (acted.world.clients ≡ w.clients) × IsFinal acted.answer
 
 same_if : (w : World) (b : Bool) (one other : Option Acted) → SameIf w one → SameIf w other → SameIf w (cond b one other)
 same_if w true one other p q = p
 same_if w false one other p q = q
 
 receive_same : (w : World) (connection : Connection) (inbox : List (List ℕ)) → SameIf w (receive_from connection inbox w)
-receive_same w connection (bytes ∷ rest) = refl
-receive_same w connection [] = same_if w (is_closed connection.status) (Some (ns_refuses errno.ChannelClosed w)) None refl tt
+receive_same w connection (bytes ∷ rest) = (refl, refl)
+receive_same w connection [] = same_if w (is_closed connection.status) (Some (ns_refuses errno.ChannelClosed w)) None (refl, refl) tt
 
 or_wait_leaves : (k clock : ℕ) (w : World) (conn : ℕ) (timeout : Timeout) (got : Option Acted) → SameIf w got → Leaves k w (receive_or_wait clock k conn timeout got w)
-or_wait_leaves k clock w conn timeout (Some acted) same = stays same
+or_wait_leaves k clock w conn timeout (Some acted) same = stays same.0 same.1
 or_wait_leaves k clock w conn timeout None same =
-    leaves_if k w (is_zero_timeout timeout) _ _ (stays refl) (waits (new_wait (wait_on.Receive conn) (deadline_of clock timeout)) refl refl)
+    leaves_if k w (is_zero_timeout timeout) _ _ (stays refl refl) (waits (new_wait (wait_on.Receive conn) (deadline_of clock timeout)) refl refl)
 
 receive_on_leaves : (k clock : ℕ) (w : World) (connection : Option Connection) (timeout : Timeout) → Leaves k w (receive_on clock k connection timeout w)
-receive_on_leaves k clock w None timeout = stays refl
+receive_on_leaves k clock w None timeout = stays refl refl
 receive_on_leaves k clock w (Some connection) timeout =
-    leaves_if k w (is_asked connection.status) _ _ (stays refl)
+    leaves_if k w (is_asked connection.status) _ _ (stays refl refl)
     (or_wait_leaves k clock w connection.address timeout (receive_from connection connection.inbox w) (receive_same w connection connection.inbox))
 
 receive_call_leaves : (k clock : ℕ) (w : World) (conn : ℕ) (timeout : Timeout) → Leaves k w (ns_recv_call clock k conn timeout w)
@@ -122,13 +121,13 @@ unfolding ns_recv_call
 receive_call_leaves k clock w conn timeout = receive_on_leaves k clock w (own_connection k conn w) timeout
 
 close_status_leaves : (k : ℕ) (w : World) (address : ℕ) (status : ConnectionStatus) → Leaves k w (close_by_status address status w)
-close_status_leaves k w address connection_status.Asked = stays refl
-close_status_leaves k w address (connection_status.Established remote size) = send_leaves k w (leave_frame address remote) (shuts address) (λ v same. stays same)
-close_status_leaves k w address (connection_status.Denied status) = stays refl
-close_status_leaves k w address connection_status.Shut = stays refl
+close_status_leaves k w address connection_status.Asked = stays refl refl
+close_status_leaves k w address (connection_status.Established remote size) = send_leaves k w (leave_frame address remote) (shuts address) (λ v same. stays same refl)
+close_status_leaves k w address (connection_status.Denied status) = stays refl refl
+close_status_leaves k w address connection_status.Shut = stays refl refl
 
 close_on_leaves : (k : ℕ) (w : World) (connection : Option Connection) → Leaves k w (close_on connection w)
-close_on_leaves k w None = stays refl
+close_on_leaves k w None = stays refl refl
 close_on_leaves k w (Some connection) = close_status_leaves k w connection.address connection.status
 
 close_call_leaves : (k : ℕ) (w : World) (conn : ℕ) → Leaves k w (ns_close_call k conn w)
@@ -155,9 +154,9 @@ leaves_by k w o acted is leaves = subst (λ (x : Option Acted). LeavesIf k w x) 
 
 connect_same : (w : World) (asked : Connection) (status : ConnectionStatus) → SameIf w (connect_answer_of asked status w)
 connect_same w asked connection_status.Asked = tt
-connect_same w asked (connection_status.Established remote size) = refl
-connect_same w asked (connection_status.Denied status) = refl
-connect_same w asked connection_status.Shut = refl
+connect_same w asked (connection_status.Established remote size) = (refl, refl)
+connect_same w asked (connection_status.Denied status) = (refl, refl)
+connect_same w asked connection_status.Shut = (refl, refl)
 
 connect_answer_same : (w : World) (asked : Option Connection) → SameIf w (connect_answer asked w)
 connect_answer_same w None = tt
@@ -175,18 +174,21 @@ answer_same w (wait_on.Receive conn) = receive_answer_same w (connection_of w.dr
 end_by_same : (clock : ℕ) (wait : ClientWait) (got : Option Acted) (w : World) → SameIf w got → SameIf w (end_by_answer clock wait got w)
 end_by_same clock wait (Some acted) w same = same
 end_by_same clock wait None w same =
-    same_if w wait.cancelled (Some (ns_refuses errno.Cancelled w)) _ refl (same_if w (is_due clock wait.deadline) (Some (ns_refuses errno.TimedOut w)) None refl tt)
+    same_if w wait.cancelled (Some (ns_refuses errno.Cancelled w)) _ (refl, refl) (same_if w (is_due clock wait.deadline) (Some (ns_refuses errno.TimedOut w)) None (refl, refl) tt)
 
 end_same_if : (clock : ℕ) (wait : ClientWait) (w : World) → SameIf w (end_of_ns_wait clock wait w)
 unfolding end_of_ns_wait
 end_same_if clock wait w = end_by_same clock wait (answer_of_wait wait.on w) w (answer_same w wait.on)
 
-end_same : (clock : ℕ) (wait : ClientWait) (w : World) (acted : Acted) → end_of_ns_wait clock wait (drained w) ≡ Some acted → acted.world.clients ≡ w.clients
-end_same clock wait w acted is = subst (λ (x : Option Acted). SameIf (drained w) x) is (end_same_if clock wait (drained w)) ∙ drained_same w
+pub end_same : (clock : ℕ) (wait : ClientWait) (w : World) (acted : Acted) → end_of_ns_wait clock wait (drained w) ≡ Some acted
+    → (acted.world.clients ≡ w.clients) × IsFinal acted.answer
+end_same clock wait w acted is =
+    let same : (acted.world.clients ≡ (drained w).clients) × IsFinal acted.answer = subst (λ (x : Option Acted). SameIf (drained w) x) is (end_same_if clock wait (drained w)) in
+    (same.0 ∙ drained_same w, same.1)
 
--- What a step of the client `k` comes to, behind so many threads, where it stands as it does at the script.
+-- What a step of the client `k` comes to, behind so many threads, where it stands as it does.
 
-module _ (scripts : List (List Command)) (entries : List Entry) (threads : ℕ) (w : World) (k start : ℕ) (client : ClientState) where
+module _ (S : Standings) (entries : List Entry) (threads : ℕ) (w : World) (k start : ℕ) (client : ClientState) where
   abbrev AtClient : ClientActivity → Type 0
   AtClient a = (slice_get w.clients k ≡ Some client) × (client.activity ≡ a)
 
@@ -194,83 +196,80 @@ module _ (scripts : List (List Command)) (entries : List Entry) (threads : ℕ) 
   here a at other is = let found : slice_get w.clients k ≡ Some client = at.0 in ap (λ (x : ClientState). x.activity) (let same : other ≡ client = cc in same) ∙ at.1
 
   -- the client does something else now, and stands at the longer history
-  moved : (entry : Entry) (a : ClientActivity) (change : ClientActivity → ClientActivity) → AtClient a → (stands : ClientStands scripts entries (threads + k) a)
-      → ClientFits (entries ++ entry ∷ []) (threads + k) stands.script (change a)
-      → (other : ClientState) → slice_get w.clients k ≡ Some other → ClientStands scripts (entries ++ entry ∷ []) (threads + k) (change other.activity)
-  moved entry a change at stands fits other is =
-      subst (λ (b : ClientActivity). ClientStands scripts (entries ++ entry ∷ []) (threads + k) (change b)) (sym (here a at other is))
-      (record { script = stands.script; script_is = stands.script_is; callable = stands.callable; fits = fits })
+  moved : (entry : Entry) (a : ClientActivity) (change : ClientActivity → ClientActivity) → AtClient a → S.client (threads + k)
+      → S.fits (entries ++ entry ∷ []) (threads + k) (client_status (change a))
+      → (other : ClientState) → slice_get w.clients k ≡ Some other → ClientStands S (entries ++ entry ∷ []) (threads + k) (change other.activity)
+  moved entry a change at known fits other is =
+      subst (λ (b : ClientActivity). ClientStands S (entries ++ entry ∷ []) (threads + k) (change b)) (sym (here a at other is)) (record { known = known; fits = fits })
 
   -- its call
 
   abbrev pub begun_entry : Call → Acted → Entry
-  begun_entry asked acted = record { event = event.Begin (record { 0 = threads + k }) start asked; answer = acted.answer; seqs = no_seqs }
+  begun_entry asked acted = entry_with (event.Begin (record { 0 = threads + k }) start asked) acted.answer no_seqs
 
   is_begun : (asked : Call) (acted : Acted) → IsOf (threads + k) start (begun_entry asked acted)
   is_begun asked acted = begin_is_of (threads + k) start asked (begun_entry asked acted) refl
 
-  goes_on : (asked : Call) (acted : Acted) → AtClient (activity.Running start) → (stands : ClientStands scripts entries (threads + k) (activity.Running start))
-      → HasCommand stands.script (stood stands.script (threads + k) start entries) → Leaves k w acted → ClientsStand scripts entries threads w.clients
-      → ClientsStand scripts (entries ++ begun_entry asked acted ∷ []) threads acted.world.clients
-  goes_on asked acted at stands has (stays is) all =
+  goes_on : (asked : Call) (acted : Acted) → AtClient (activity.Running start) → S.client (threads + k) → FitsCall S entries (threads + k) start asked
+      → Leaves k w acted → ClientsStand S entries threads w.clients → ClientsStand S (entries ++ begun_entry asked acted ∷ []) threads acted.world.clients
+  goes_on asked acted at known own (stays is final) all =
       let entry : Entry = begun_entry asked acted in
-      subst (λ (clients : List ClientState). ClientsStand scripts (entries ++ entry ∷ []) threads clients) (sym is)
-      (one_stays scripts entries entry threads k start w.clients (is_begun asked acted)
-      (moved entry (activity.Running start) (λ a. a) at stands (answered_fits scripts entries entry (threads + k) start stands.script has)) all)
-  goes_on asked acted at stands has (waits wait is answer_is) all =
+      subst (λ (clients : List ClientState). ClientsStand S (entries ++ entry ∷ []) threads clients) (sym is)
+      (one_stays S entries entry threads k start w.clients (is_begun asked acted)
+      (moved entry (activity.Running start) (λ a. a) at known (own.answered acted.answer no_seqs final)) all)
+  goes_on asked acted at known own (waits wait is answer_is) all =
       let entry : Entry = begun_entry asked acted in
-      let not_final : final_answer acted.answer ≡ None = ap (λ (a : Answer). final_answer a) answer_is in
-      subst (λ (clients : List ClientState). ClientsStand scripts (entries ++ entry ∷ []) threads clients) (sym is)
-      (one_changes scripts entries entry threads k start w.clients (client_waiting wait) (is_begun asked acted)
-      (moved entry (activity.Running start) (client_waiting wait) at stands
-      (waits_fits scripts entries entry (threads + k) start stands.script (is_begun asked acted) not_final has)) all)
+      let fits : S.fits (entries ++ entry ∷ []) (threads + k) (status.Waiting start) =
+      subst (λ (given : Answer). S.fits (entries ++ entry_with (event.Begin (record { 0 = threads + k }) start asked) given no_seqs ∷ []) (threads + k) (status.Waiting start))
+      (sym answer_is) (own.waits no_seqs) in
+      subst (λ (clients : List ClientState). ClientsStand S (entries ++ entry ∷ []) threads clients) (sym is)
+      (one_changes S entries entry threads k start w.clients (client_waiting wait) (is_begun asked acted)
+      (moved entry (activity.Running start) (client_waiting wait) at known fits) all)
 
   ends : (clock : ℕ) (asked : Call) (acted : Acted) → is_of_client asked ≡ true → is_ending asked ≡ true → ns_act clock k asked w ≡ Some acted
-      → AtClient (activity.Running start) → ClientStands scripts entries (threads + k) (activity.Running start) → ClientsStand scripts entries threads w.clients
-      → ClientsStand scripts (entries ++ begun_entry asked acted ∷ []) threads acted.world.clients
+      → AtClient (activity.Running start) → S.client (threads + k) → ClientsStand S entries threads w.clients
+      → ClientsStand S (entries ++ begun_entry asked acted ∷ []) threads acted.world.clients
   unfolding ns_act
-  ends clock call.Finish acted kind over is at stands all =
+  ends clock call.Finish acted kind over is at known all =
       let entry : Entry = begun_entry call.Finish acted in
-      subst (λ (x : Acted). ClientsStand scripts (entries ++ entry ∷ []) threads x.world.clients) (let same : ns_gives reply.Done (with_client client_ended k w) ≡ acted = cc in same)
-      (one_changes scripts entries entry threads k start w.clients client_ended (is_begun call.Finish acted) (moved entry (activity.Running start) client_ended at stands tt) all)
-  ends clock _ acted kind over is at stands all = absurd (cc)
+      subst (λ (x : Acted). ClientsStand S (entries ++ entry ∷ []) threads x.world.clients) (let same : ns_gives reply.Done (with_client client_ended k w) ≡ acted = cc in same)
+      (one_changes S entries entry threads k start w.clients client_ended (is_begun call.Finish acted)
+      (moved entry (activity.Running start) client_ended at known (S.ended (entries ++ entry ∷ []) (threads + k) start)) all)
+  ends clock _ acted kind over is at known all = absurd (cc)
 
-  begun_by : (clock : ℕ) (asked : Call) (acted : Acted) (over : Bool) → is_ending asked ≡ over → ns_act clock k asked w ≡ Some acted
-      → AtClient (activity.Running start) → (stands : ClientStands scripts entries (threads + k) (activity.Running start))
-      → IsNext is_of_client stands.script (stood stands.script (threads + k) start entries) asked → ClientsStand scripts entries threads w.clients
-      → ClientsStand scripts (entries ++ begun_entry asked acted ∷ []) threads acted.world.clients
-  begun_by clock asked acted true over is at stands next all = ends clock asked acted next.kind over is at stands all
-  begun_by clock asked acted false goes is at stands next all =
-      goes_on asked acted at stands (next.in_command goes) (leaves_by k w (ns_act clock k asked w) acted is (act_leaves k clock w asked next.kind goes)) all
+  begun_by : (clock : ℕ) (asked : Call) (acted : Acted) (over : Bool) → is_ending asked ≡ over → is_of_client asked ≡ true → ns_act clock k asked w ≡ Some acted
+      → AtClient (activity.Running start) → S.client (threads + k) → (is_ending asked ≡ false → FitsCall S entries (threads + k) start asked)
+      → ClientsStand S entries threads w.clients → ClientsStand S (entries ++ begun_entry asked acted ∷ []) threads acted.world.clients
+  begun_by clock asked acted true over kind is at known own all = ends clock asked acted kind over is at known all
+  begun_by clock asked acted false goes kind is at known own all =
+      goes_on asked acted at known (own goes) (leaves_by k w (ns_act clock k asked w) acted is (act_leaves k clock w asked kind goes)) all
 
-  pub client_begun : (clock : ℕ) (asked : Call) (acted : Acted) → ns_act clock k asked w ≡ Some acted
-      → slice_get w.clients k ≡ Some client → client.activity ≡ activity.Running start → (stands : ClientStands scripts entries (threads + k) (activity.Running start))
-      → IsNext is_of_client stands.script (stood stands.script (threads + k) start entries) asked → ClientsStand scripts entries threads w.clients
-      → ClientsStand scripts (entries ++ begun_entry asked acted ∷ []) threads acted.world.clients
-  client_begun clock asked acted is client_is activity_is stands next all = begun_by clock asked acted (is_ending asked) refl is (client_is, activity_is) stands next all
+  pub client_begun : (clock : ℕ) (asked : Call) (acted : Acted) → is_of_client asked ≡ true → ns_act clock k asked w ≡ Some acted
+      → slice_get w.clients k ≡ Some client → client.activity ≡ activity.Running start → (is_ending asked ≡ false → FitsCall S entries (threads + k) start asked)
+      → ClientsStand S entries threads w.clients → ClientsStand S (entries ++ begun_entry asked acted ∷ []) threads acted.world.clients
+  client_begun clock asked acted kind is client_is activity_is own all =
+      begun_by clock asked acted (is_ending asked) refl kind is (client_is, activity_is) (all k client client_is).known own all
 
   -- the end of its wait
 
   abbrev pub woken_entry : Acted → Entry
-  woken_entry acted = record { event = event.Resume (record { 0 = threads + k }) start; answer = acted.answer; seqs = no_seqs }
+  woken_entry acted = entry_with (event.Resume (record { 0 = threads + k }) start) acted.answer no_seqs
 
   pub client_woken : (clock : ℕ) (wait : ClientWait) (acted : Acted) → end_of_ns_wait clock wait (drained w) ≡ Some acted
-      → slice_get w.clients k ≡ Some client → client.activity ≡ activity.Waiting start wait → ClientsStand scripts entries threads w.clients
-      → ClientsStand scripts (entries ++ woken_entry acted ∷ []) threads (runs_again k acted).world.clients
-  client_woken clock wait acted is client_is activity_is all =
+      → slice_get w.clients k ≡ Some client → client.activity ≡ activity.Waiting start wait → S.fits (entries ++ woken_entry acted ∷ []) (threads + k) (status.Running start)
+      → ClientsStand S entries threads w.clients → ClientsStand S (entries ++ woken_entry acted ∷ []) threads (runs_again k acted).world.clients
+  client_woken clock wait acted is client_is activity_is own all =
       let entry : Entry = woken_entry acted in
-      let stands : ClientStands scripts entries (threads + k) (activity.Waiting start wait) =
-      subst (λ (a : ClientActivity). ClientStands scripts entries (threads + k) a) activity_is (all k client client_is) in
-      subst (λ (clients : List ClientState). ClientsStand scripts (entries ++ entry ∷ []) threads (map_at (client_changed client_running) clients k)) (sym (end_same clock wait w acted is))
-      (one_changes scripts entries entry threads k start w.clients client_running (resume_is_of (threads + k) start entry refl)
-      (moved entry (activity.Waiting start wait) client_running (client_is, activity_is) stands (answered_fits scripts entries entry (threads + k) start stands.script stands.fits)) all)
+      subst (λ (clients : List ClientState). ClientsStand S (entries ++ entry ∷ []) threads (map_at (client_changed client_running) clients k)) (sym (end_same clock wait w acted is).0)
+      (one_changes S entries entry threads k start w.clients client_running (resume_is_of (threads + k) start entry refl)
+      (moved entry (activity.Waiting start wait) client_running (client_is, activity_is) (all k client client_is).known own) all)
 
 -- The steps of the whole state.
 
-is_no_thread : (n k : ℕ) → nat_lt (n + k) n ≡ false
+pub is_no_thread : (n k : ℕ) → nat_lt (n + k) n ≡ false
 is_no_thread n k = grind (arith, nat_tests)
 
-behind : (n k : ℕ) → n + k - n ≡ k
+pub behind : (n k : ℕ) → n + k - n ≡ k
 behind n k = omega arith
 
 pub client_begin_step : (s : State) (k start : ℕ) (client : ClientState) (asked : Call) (acted : Acted) → slice_get s.world.clients k ≡ Some client → client.activity ≡ activity.Running start

@@ -14,10 +14,10 @@ use Rattle.kernel_types.specs.Carried.{is_honest}
 use Rattle.kernel_types.specs.Facts.{is_at_end, status_at}
 use Rattle.kernel_types.specs.Step.{Stepped, step, statuses, device_has_work, idle_lawful}
 use Rattle.kernel_types.specs.Turns.{Run, Outturn, ran, refused, grown, event_of, run_event, run_turn, run_from, run_by, opening_run, takes_turn, actors_in_turn, turn_or_kernel, next_turn, last_after, serial_from, serial_turns, history_limit}
-use Rattle.runners.proofs.Counting.{actors_stay}
-use Rattle.runners.proofs.Ending.{from_turn, from_refused, serial_step, serial_over, serial_full, turn_grows}
-use Rattle.runners.proofs.Ordering.{first_low, whole_at_end}
-use Rattle.runners.specs.Runs.{IsBelow}
+use Rattle.run_laws.proofs.Counting.{actors_stay}
+use Rattle.run_laws.proofs.SerialTurns.{from_turn, from_refused, serial_step, serial_over, serial_full, turn_grows}
+use Rattle.run_laws.proofs.Ordering.{first_low, whole_at_end}
+use Rattle.run_laws.specs.Order.{IsBelow}
 use Rattle.run_laws.specs.Progress.{CanBeTaken, IsWholeOrFull}
 use Rattle.run_laws.proofs.Opening.{placed_at_opening}
 use Rattle.run_laws.proofs.Turning.{AtScripts, Taken, actor_taken, kernel_taken, turn_keeps}

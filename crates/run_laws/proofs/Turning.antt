@@ -1,13 +1,10 @@
 -- Turns from a run in which every thread and every client stands at its script.
-use Rattle.std.proofs.Common.{◌≡◌, ℕ, zero, suc, ◌+◌, Bool, true, false, cond, List, [], ◌∷◌, ◌++◌, length, map, Option, Some, None, refl, ap, sym, ◌∙◌, subst, arith, zero-add, inl, inr}
-use Rattle.std.proofs.lemmas.List.{length-map}
-use Rattle.std.proofs.lemmas.Option.{slice_get-map, slice_get_within}
-use Rattle.std.specs.Prelude.{◌⊎◌, slice_get}
+use Rattle.std.proofs.Common.{◌≡◌, ℕ, ◌+◌, Bool, true, false, cond, List, length, Option, Some, None, refl, ap, sym, ◌∙◌, subst}
+use Rattle.std.specs.Prelude.{slice_get}
 use Rattle.std.specs.Option.{option_map, is_some}
 use Rattle.kernel_values.specs.declared.call.Call.{Call}
 use Rattle.kernel_values.specs.declared.entry.ActorStatus.{ActorStatus}
 use Rattle.kernel_values.specs.declared.entry.ActorStatus.TheVariants as status
-use Rattle.kernel_values.specs.declared.entry.Entry.{Entry}
 use Rattle.kernel_values.specs.declared.entry.Event.{Event}
 use Rattle.kernel_values.specs.declared.entry.Event.TheVariants as event
 use Rattle.kernel_values.specs.declared.scene.Turn.{Turn}
@@ -23,8 +20,7 @@ use Rattle.kernel_values.specs.declared.world.ClientActivity.{ClientActivity}
 use Rattle.kernel_values.specs.declared.world.ClientActivity.TheVariants as client_activity
 use Rattle.kernel_values.specs.declared.world.ClientState.{ClientState}
 use Rattle.kernel_values.specs.declared.world.ClientWait.{ClientWait}
-use Rattle.kernel_values.specs.declared.world.World.{World}
-use Rattle.kernel_types.proofs.Actors.{client_moves, status_of_client, status_of_thread, thread_is_thread, thread_moves}
+use Rattle.kernel_types.proofs.Actors.{client_moves, thread_is_thread, thread_moves}
 use Rattle.kernel_types.specs.Clients.{Acted, end_of_ns_wait, ns_act}
 use Rattle.kernel_types.specs.Device.{DeviceStep, device_step}
 use Rattle.kernel_types.specs.Drains.{drained}
@@ -32,62 +28,20 @@ use Rattle.kernel_types.specs.Facts.{status_at}
 use Rattle.kernel_types.specs.Outcome.{Outcome, no_seqs}
 use Rattle.kernel_types.specs.Scripts.{Stand, next_call}
 use Rattle.kernel_types.specs.CoreStep.{act, status_of, swept, resumed}
-use Rattle.kernel_types.specs.Step.{Stepped, beside_core, client_movable, client_status, device_has_work, device_stepped, full_step, idle, idle_lawful, in_world, movable, next_deadline, runs_again, statuses, step, world_idle}
+use Rattle.kernel_types.specs.Step.{Stepped, beside_core, client_movable, client_status, device_has_work, device_stepped, full_step, idle, idle_lawful, in_world, movable, runs_again, step}
 use Rattle.kernel_types.specs.Turns.{Run, grown, event_of, run_event, run_turn, takes_turn, kernel_turn, begin_by_script, begin_if, event_by_status}
 use Rattle.kernel_types.specs.Waits.{end_of_wait, thread_movable}
-use Rattle.kernel_laws.proofs.Standing.{StepStands, step_stands}
-use Rattle.run_laws.proofs.Bridging.{device_stands}
 use Rattle.run_laws.proofs.Callers.{is_of_client, is_of_thread}
 use Rattle.run_laws.proofs.Calling.{IsNext, acted_of, client_next, outcome_of, some_of, thread_next}
-use Rattle.run_laws.proofs.ClientPlaces.{ClientStands, ClientsStand, cancelled_stand, clients_longer}
-use Rattle.run_laws.proofs.ClientSteps.{client_begin_step, client_begun, client_resume_step, client_stays_waiting, client_woken}
-use Rattle.run_laws.proofs.Longer.{IsOf, all_longer, begin_is_of, resume_is_of}
-use Rattle.run_laws.proofs.Places.{stood, HasCall, Fits, Stands, AllStand}
-use Rattle.run_laws.proofs.Stepping.{begin_stands, begin_step, entry_with, idle_after, idle_step, resume_stands, resume_step, stays_waiting}
+use Rattle.run_laws.proofs.ClientSteps.{client_stays_waiting}
+use Rattle.run_laws.proofs.Everyone.{Actor, Everyone, Stepping, actor_of, client_begins, client_resumes, device_turns, idles, thread_begins, thread_resumes}
+use Rattle.run_laws.proofs.Everyone.Actor.{is_client, is_none, is_thread}
+use Rattle.run_laws.proofs.Longer.{entry_with}
+use Rattle.run_laws.proofs.Scripted.{FitsAt, HasScript, at_scripts, fits_call, fits_end, stood}
+use Rattle.run_laws.proofs.Stepping.{stays_waiting}
 
--- every thread and every client stands at its script
-pub record AtScripts (scripts : List (List Command)) (run : Run) : Type 0 where
-  pub all : AllStand scripts run.entries run.state.core
-  pub clients : ClientsStand scripts run.entries (length run.state.core.threads) run.state.world.clients
-
--- An actor is a thread or a client, and has its status; else it has none.
-
-pub get_behind : {X : Type 0} (xs ys : List X) (k : ℕ) → slice_get (xs ++ ys) (length xs + k) ≡ slice_get ys k
-get_behind [] ys k = ap (λ n. slice_get ys n) (zero-add k)
-get_behind (x ∷ xs) ys k = ap (λ n. slice_get (x ∷ (xs ++ ys)) n) (let next : suc (length xs) + k ≡ suc (length xs + k) = omega arith in next) ∙ get_behind xs ys k
-
--- a place in a list, or behind it
-placed_or_behind : {X : Type 0} (xs : List X) (k : ℕ) → ((x : X) × (slice_get xs k ≡ Some x)) ⊎ ((j : ℕ) × (k ≡ length xs + j))
-placed_or_behind [] k = inr (k, omega arith)
-placed_or_behind (x ∷ xs) zero = inl (x, refl)
-placed_or_behind (x ∷ xs) (suc k) = elim (placed_or_behind xs k) [
-  | inl p ↦ inl p
-  | inr p ↦ inr (p.0, omega (arith, p.1))
-]
-
-no_client : (s : State) (k : ℕ) → slice_get s.world.clients k ≡ None → status_at s (length s.core.threads + k) ≡ None
-unfolding statuses
-no_client s k none_is =
-    let f : Thread → ActorStatus = λ t. status_of t.activity in
-    let g : ClientState → ActorStatus = λ c. client_status c.activity in
-    ap (λ n. slice_get (map f s.core.threads ++ map g s.world.clients) (n + k)) (sym (length-map s.core.threads f))
-    ∙ (get_behind (map f s.core.threads) (map g s.world.clients) k ∙ (slice_get-map g s.world.clients k ∙ ap (λ (o : Option ClientState). option_map g o) none_is))
-
-data Actor (s : State) (actor : ℕ) : Type 0 where
-  is_thread : (thread : Thread) → slice_get s.core.threads actor ≡ Some thread → status_at s actor ≡ Some (status_of thread.activity) → Actor s actor
-  is_client : (k : ℕ) (client : ClientState) → actor ≡ length s.core.threads + k → slice_get s.world.clients k ≡ Some client
-      → status_at s actor ≡ Some (client_status client.activity) → Actor s actor
-  is_none : status_at s actor ≡ None → Actor s actor
-
-client_or_none : (s : State) (actor k : ℕ) → actor ≡ length s.core.threads + k → (o : Option ClientState) → slice_get s.world.clients k ≡ o → Actor s actor
-client_or_none s actor k actor_is None is = is_none (ap (λ n. status_at s n) actor_is ∙ no_client s k is)
-client_or_none s actor k actor_is (Some client) is = is_client k client actor_is is (ap (λ n. status_at s n) actor_is ∙ status_of_client s k client is)
-
-actor_of : (s : State) (actor : ℕ) → Actor s actor
-actor_of s actor = elim (placed_or_behind s.core.threads actor) [
-  | inl p ↦ is_thread p.0 p.1 (status_of_thread s actor p.0 p.1)
-  | inr p ↦ client_or_none s actor p.0 p.1 (slice_get s.world.clients p.0) refl
-]
+abbrev pub AtScripts : List (List Command) → Run → Type 0
+AtScripts scripts run = Everyone (at_scripts scripts) run.entries run.state
 
 -- How an actor can take a turn: it runs, or the end of its wait is there.
 
@@ -162,19 +116,6 @@ turns : (scripts : List (List Command)) (run : Run) (t : Turn) (e : Event) (step
     → run_turn step scripts run t ≡ Some (grown run e stepped)
 turns scripts run t e stepped event_is is = ap (λ (o : Option Event). run_event step run o) event_is ∙ ap (λ (o : Option Stepped). option_map (grown run e) o) is
 
--- As many threads stay.
-
-threads_by : (s : State) (o : Option Stepped) (stepped : Stepped) → o ≡ Some stepped → StepStands s o → length stepped.state.core.threads ≡ length s.core.threads
-threads_by s None stepped is stands = absurd (cc)
-threads_by s (Some found) stepped is stands =
-    let same : found ≡ stepped = cc in
-    let many : length found.state.core.threads ≡ length s.core.threads =
-    sym (length-map found.state.core.threads (λ (t : Thread). t.app)) ∙ (ap (λ owners. length owners) stands.owners_are ∙ length-map s.core.threads (λ (t : Thread). t.app)) in
-    ap (λ (r : Stepped). length r.state.core.threads) (sym same) ∙ many
-
-threads_stay : (s : State) (e : Event) (stepped : Stepped) → step s e ≡ Some stepped → length stepped.state.core.threads ≡ length s.core.threads
-threads_stay s e stepped is = threads_by s (step s e) stepped is (step_stands s e)
-
 -- An actor that can take a turn takes it.
 
 pub record Taken (scripts : List (List Command)) (run : Run) (t : Turn) : Type 0 where
@@ -183,50 +124,25 @@ pub record Taken (scripts : List (List Command)) (run : Run) (t : Turn) : Type 0
   pub placed : AtScripts scripts next
 
 -- a turn whose event is there, and is lawful
-taken_at : (scripts : List (List Command)) (run : Run) (t : Turn) (e : Event) (stepped : Stepped) → event_of scripts run t ≡ Some e → step run.state e ≡ Some stepped
-    → AllStand scripts (grown run e stepped).entries stepped.state.core
-    → ClientsStand scripts (grown run e stepped).entries (length run.state.core.threads) stepped.state.world.clients → Taken scripts run t
-taken_at scripts run t e stepped event_is is all clients = record {
+taken_at : (scripts : List (List Command)) (run : Run) (t : Turn) (e : Event) (stepped : Stepped) → event_of scripts run t ≡ Some e
+    → Stepping (at_scripts scripts) run.entries run.state e stepped → Taken scripts run t
+taken_at scripts run t e stepped event_is stepping = record {
   next = grown run e stepped;
-  took = turns scripts run t e stepped event_is is;
-  placed = record {
-    all = all;
-    clients = subst (λ n. ClientsStand scripts (grown run e stepped).entries n stepped.state.world.clients) (sym (threads_stay run.state e stepped is)) clients;
-  };
+  took = turns scripts run t e stepped event_is stepping.is;
+  placed = stepping.stand;
 }
-
--- no client has the number of a thread
-
-thread_apart : (threads : List Thread) (j : ℕ) (thread : Thread) (k : ℕ) → slice_get threads j ≡ Some thread → j ≡ length threads + k → ⊥
-thread_apart threads j thread k is same = absurd (omega (arith, slice_get_within threads j thread is, same))
-
--- of an entry of a thread, and of a client
-
-clients_after : (scripts : List (List Command)) (entries : List Entry) (entry : Entry) (threads : List Thread) (clients : List ClientState) (j start : ℕ) (thread : Thread)
-    → slice_get threads j ≡ Some thread → IsOf j start entry → ClientsStand scripts entries (length threads) clients → ClientsStand scripts (entries ++ entry ∷ []) (length threads) clients
-clients_after scripts entries entry threads clients j start thread thread_is of all =
-    clients_longer scripts entries entry (length threads) clients (λ k s. of.silent (length threads + k) s (λ same t. thread_apart threads j thread k thread_is (sym same))) all
-
-threads_after : (scripts : List (List Command)) (entries : List Entry) (entry : Entry) (c : CoreState) (k start : ℕ) → IsOf (length c.threads + k) start entry
-    → AllStand scripts entries c → AllStand scripts (entries ++ entry ∷ []) c
-threads_after scripts entries entry c k start of all =
-    all_longer scripts entries entry c (λ j thread is s. of.silent j s (λ same t. thread_apart c.threads j thread k is same)) all
 
 begun : (scripts : List (List Command)) (run : Run) (k start : ℕ) (thread : Thread) → AtScripts scripts run → slice_get run.state.core.threads k ≡ Some thread
     → thread.activity ≡ activity.Running start → status_at run.state k ≡ Some (status.Running start) → Taken scripts run (turn.Actor k)
 begun scripts run k start thread placed thread_is activity_is is =
-    let stands : Stands scripts run.entries _ k thread = placed.all k thread thread_is in
-    let script : List Command = stands.known.script in
-    let script_is : slice_get scripts k ≡ Some script = stands.known.script_is in
-    let has : HasCall script (stood script k start run.entries) = subst (λ (a : Activity). Fits run.entries k script a) activity_is (stands.fits script script_is) in
-    let call : (asked : Call) × IsNext is_of_thread script (stood script k start run.entries) asked = thread_next script (stood script k start run.entries) stands.known.callable has in
+    let own : HasScript is_of_thread scripts k = (placed.all k thread thread_is).known.thread in
+    let stand : Stand = stood own.script k start run.entries in
+    let fits : FitsAt scripts run.entries k (status.Running start) = subst (λ (a : Activity). FitsAt scripts run.entries k (status_of a)) activity_is (placed.all k thread thread_is).fits in
+    let call : (asked : Call) × IsNext is_of_thread own.script stand asked = thread_next own.script stand own.callable (fits own.script own.script_is) in
     let done : (outcome : Outcome) × (act run.state.core k thread.app call.0 ≡ Some outcome) = outcome_of run.state.core k thread.app call.0 call.1.kind in
-    let e : Event = event.Begin (record { 0 = k }) start call.0 in
-    taken_at scripts run (turn.Actor k) e (in_world run.state.world (swept done.0)) (begins scripts run k start script call.0 is script_is call.1.next)
-    (begin_step run.state k start thread call.0 done.0 thread_is activity_is call.1.kind done.1)
-    (begin_stands scripts run.entries run.state.core k start thread script call.0 done.0 placed.all thread_is activity_is script_is call.1 done.1)
-    (clients_after scripts run.entries (entry_with e done.0.answer done.0.seqs) run.state.core.threads run.state.world.clients k start thread thread_is
-    (begin_is_of k start call.0 (entry_with e done.0.answer done.0.seqs) refl) placed.clients)
+    taken_at scripts run (turn.Actor k) (event.Begin (record { 0 = k }) start call.0) (in_world run.state.world (swept done.0)) (begins scripts run k start own.script call.0 is own.script_is call.1.next)
+    (thread_begins (at_scripts scripts) run.entries run.state placed k start thread call.0 done.0 thread_is activity_is call.1.kind
+    (λ goes. fits_call scripts run.entries k start call.0 own.script own.script_is (call.1.in_command goes)) done.1)
 
 woken : (scripts : List (List Command)) (run : Run) (k start : ℕ) (thread : Thread) (w : Wait) → AtScripts scripts run → slice_get run.state.core.threads k ≡ Some thread
     → thread.activity ≡ activity.Waiting start w → status_at run.state k ≡ Some (status.Waiting start) → is_some (end_of_wait run.state.core thread.app w) ≡ true
@@ -234,73 +150,60 @@ woken : (scripts : List (List Command)) (run : Run) (k start : ℕ) (thread : Th
 woken scripts run k start thread w placed thread_is activity_is is moves =
     let done : (outcome : Outcome) × (end_of_wait run.state.core thread.app w ≡ Some outcome) = some_of (end_of_wait run.state.core thread.app w) moves in
     let e : Event = event.Resume (record { 0 = k }) start in
+    let fits : FitsAt scripts run.entries k (status.Waiting start) = subst (λ (a : Activity). FitsAt scripts run.entries k (status_of a)) activity_is (placed.all k thread thread_is).fits in
     taken_at scripts run (turn.Actor k) e (in_world run.state.world (resumed k done.0)) (resumes scripts run k start is)
-    (resume_step run.state k start thread w done.0 thread_is activity_is done.1)
-    (resume_stands scripts run.entries run.state.core k start thread w done.0 placed.all thread_is activity_is done.1)
-    (clients_after scripts run.entries (entry_with e done.0.answer done.0.seqs) run.state.core.threads run.state.world.clients k start thread thread_is
-    (resume_is_of k start (entry_with e done.0.answer done.0.seqs) refl) placed.clients)
+    (thread_resumes (at_scripts scripts) run.entries run.state placed k start thread w done.0 thread_is activity_is done.1
+    (fits_end scripts run.entries (entry_with e done.0.answer done.0.seqs) k start fits))
 
-client_begins : (scripts : List (List Command)) (run : Run) (k start : ℕ) (client : ClientState) → AtScripts scripts run → slice_get run.state.world.clients k ≡ Some client
+client_runs_on : (scripts : List (List Command)) (run : Run) (k start : ℕ) (client : ClientState) → AtScripts scripts run → slice_get run.state.world.clients k ≡ Some client
     → client.activity ≡ client_activity.Running start → status_at run.state (length run.state.core.threads + k) ≡ Some (status.Running start)
     → Taken scripts run (turn.Actor (length run.state.core.threads + k))
-client_begins scripts run k start client placed client_is activity_is is =
-    let threads : ℕ = length run.state.core.threads in
-    let w : World = run.state.world in
-    let stands : ClientStands scripts run.entries (threads + k) (client_activity.Running start) =
-    subst (λ (a : ClientActivity). ClientStands scripts run.entries (threads + k) a) activity_is (placed.clients k client client_is) in
-    let stand : Stand = stood stands.script (threads + k) start run.entries in
-    let call : (asked : Call) × IsNext is_of_client stands.script stand asked = client_next stands.script stand stands.callable stands.fits in
-    let done : (acted : Acted) × (ns_act run.state.core.clock k call.0 w ≡ Some acted) = acted_of run.state.core.clock k w call.0 call.1.kind in
-    let e : Event = event.Begin (record { 0 = threads + k }) start call.0 in
-    taken_at scripts run (turn.Actor (threads + k)) e (beside_core run.state.core done.0) (begins scripts run (threads + k) start stands.script call.0 is stands.script_is call.1.next)
-    (client_begin_step run.state k start client call.0 done.0 client_is activity_is call.1.kind done.1)
-    (threads_after scripts run.entries (entry_with e done.0.answer no_seqs) run.state.core k start (begin_is_of (threads + k) start call.0 (entry_with e done.0.answer no_seqs) refl) placed.all)
-    (client_begun scripts run.entries threads w k start client run.state.core.clock call.0 done.0 done.1 client_is activity_is stands call.1 placed.clients)
+client_runs_on scripts run k start client placed client_is activity_is is =
+    let actor : ℕ = length run.state.core.threads + k in
+    let own : HasScript is_of_client scripts actor = (placed.clients k client client_is).known in
+    let stand : Stand = stood own.script actor start run.entries in
+    let fits : FitsAt scripts run.entries actor (status.Running start) =
+    subst (λ (a : ClientActivity). FitsAt scripts run.entries actor (client_status a)) activity_is (placed.clients k client client_is).fits in
+    let call : (asked : Call) × IsNext is_of_client own.script stand asked = client_next own.script stand own.callable (fits own.script own.script_is) in
+    let done : (acted : Acted) × (ns_act run.state.core.clock k call.0 run.state.world ≡ Some acted) = acted_of run.state.core.clock k run.state.world call.0 call.1.kind in
+    taken_at scripts run (turn.Actor actor) (event.Begin (record { 0 = actor }) start call.0) (beside_core run.state.core done.0)
+    (begins scripts run actor start own.script call.0 is own.script_is call.1.next)
+    (client_begins (at_scripts scripts) run.entries run.state placed k start client call.0 done.0 client_is activity_is call.1.kind
+    (λ goes. fits_call scripts run.entries actor start call.0 own.script own.script_is (call.1.in_command goes)) done.1)
 
-client_resumes : (scripts : List (List Command)) (run : Run) (k start : ℕ) (client : ClientState) (wait : ClientWait) → AtScripts scripts run
+client_woken : (scripts : List (List Command)) (run : Run) (k start : ℕ) (client : ClientState) (wait : ClientWait) → AtScripts scripts run
     → slice_get run.state.world.clients k ≡ Some client → client.activity ≡ client_activity.Waiting start wait
     → status_at run.state (length run.state.core.threads + k) ≡ Some (status.Waiting start) → is_some (end_of_ns_wait run.state.core.clock wait (drained run.state.world)) ≡ true
     → Taken scripts run (turn.Actor (length run.state.core.threads + k))
-client_resumes scripts run k start client wait placed client_is activity_is is moves =
-    let threads : ℕ = length run.state.core.threads in
-    let w : World = run.state.world in
-    let done : (acted : Acted) × (end_of_ns_wait run.state.core.clock wait (drained w) ≡ Some acted) = some_of (end_of_ns_wait run.state.core.clock wait (drained w)) moves in
-    let e : Event = event.Resume (record { 0 = threads + k }) start in
-    taken_at scripts run (turn.Actor (threads + k)) e (beside_core run.state.core (runs_again k done.0)) (resumes scripts run (threads + k) start is)
-    (client_resume_step run.state k start client wait done.0 client_is activity_is done.1)
-    (threads_after scripts run.entries (entry_with e done.0.answer no_seqs) run.state.core k start (resume_is_of (threads + k) start (entry_with e done.0.answer no_seqs) refl) placed.all)
-    (client_woken scripts run.entries threads w k start client run.state.core.clock wait done.0 done.1 client_is activity_is placed.clients)
+client_woken scripts run k start client wait placed client_is activity_is is moves =
+    let actor : ℕ = length run.state.core.threads + k in
+    let done : (acted : Acted) × (end_of_ns_wait run.state.core.clock wait (drained run.state.world) ≡ Some acted) = some_of (end_of_ns_wait run.state.core.clock wait (drained run.state.world)) moves in
+    let e : Event = event.Resume (record { 0 = actor }) start in
+    let fits : FitsAt scripts run.entries actor (status.Waiting start) =
+    subst (λ (a : ClientActivity). FitsAt scripts run.entries actor (client_status a)) activity_is (placed.clients k client client_is).fits in
+    taken_at scripts run (turn.Actor actor) e (beside_core run.state.core (runs_again k done.0)) (resumes scripts run actor start is)
+    (client_resumes (at_scripts scripts) run.entries run.state placed k start client wait done.0 client_is activity_is done.1
+    (fits_end scripts run.entries (entry_with e done.0.answer no_seqs) actor start fits))
 
 taken_by : (scripts : List (List Command)) (run : Run) (actor : ℕ) → AtScripts scripts run → Taking run.state actor → Taken scripts run (turn.Actor actor)
 taken_by scripts run actor placed (runs thread start thread_is activity_is is) = begun scripts run actor start thread placed thread_is activity_is is
 taken_by scripts run actor placed (wakes thread start w thread_is activity_is is moves) = woken scripts run actor start thread w placed thread_is activity_is is moves
 taken_by scripts run actor placed (client_runs k client start actor_is client_is activity_is is) =
-    subst (λ n. Taken scripts run (turn.Actor n)) (sym actor_is) (client_begins scripts run k start client placed client_is activity_is (ap (λ n. status_at run.state n) (sym actor_is) ∙ is))
+    subst (λ n. Taken scripts run (turn.Actor n)) (sym actor_is) (client_runs_on scripts run k start client placed client_is activity_is (ap (λ n. status_at run.state n) (sym actor_is) ∙ is))
 taken_by scripts run actor placed (client_wakes k client start w actor_is client_is activity_is is moves) =
     subst (λ n. Taken scripts run (turn.Actor n)) (sym actor_is)
-    (client_resumes scripts run k start client w placed client_is activity_is (ap (λ n. status_at run.state n) (sym actor_is) ∙ is) moves)
+    (client_woken scripts run k start client w placed client_is activity_is (ap (λ n. status_at run.state n) (sym actor_is) ∙ is) moves)
 
 pub actor_taken : (scripts : List (List Command)) (run : Run) (actor : ℕ) → AtScripts scripts run → takes_turn run.state actor ≡ true → Taken scripts run (turn.Actor actor)
 actor_taken scripts run actor placed takes = taken_by scripts run actor placed (taking_by run.state actor (actor_of run.state actor) takes)
 
 -- The device, where it has work.
 
-device_step_is : (s : State) (done : DeviceStep) → device_step s ≡ Some done → step s event.Device ≡ Some (device_stepped done)
-unfolding step full_step
-device_step_is s done is = rw is refl
-
 device_by : (scripts : List (List Command)) (run : Run) (o : Option DeviceStep) → device_step run.state ≡ o → is_some o ≡ true → AtScripts scripts run → Taken scripts run turn.Device
 unfolding event_of
 device_by scripts run None is works placed = absurd (cc)
 device_by scripts run (Some done) is works placed =
-    let s : State = run.state in
-    let entry : Entry = entry_with event.Device (device_stepped done).answer done.seqs in
-    let longest : List Entry = run.entries ++ entry ∷ [] in
-    let all : AllStand scripts longest s.core = all_longer scripts run.entries entry s.core (λ j thread thread_is start. refl) placed.all in
-    let kept : AllStand scripts longest done.state.core × (done.state.world.clients ≡ s.world.clients) = device_stands scripts longest s done is all in
-    taken_at scripts run turn.Device event.Device (device_stepped done) refl (device_step_is s done is) kept.0
-    (subst (λ (clients : List ClientState). ClientsStand scripts longest (length s.core.threads) clients) (sym kept.1)
-    (clients_longer scripts run.entries entry (length s.core.threads) s.world.clients (λ k start. refl) placed.clients))
+    taken_at scripts run turn.Device event.Device (device_stepped done) refl (device_turns (at_scripts scripts) run.entries run.state placed done is)
 
 device_taken : (scripts : List (List Command)) (run : Run) → AtScripts scripts run → device_has_work run.state ≡ true → Taken scripts run turn.Device
 unfolding device_has_work
@@ -308,20 +211,9 @@ device_taken scripts run placed works = device_by scripts run (device_step run.s
 
 -- And Idle, where it is lawful.
 
-idle_clients : (scripts : List (List Command)) (entries : List Entry) (threads : ℕ) (deadline : Option ℕ) (w : World) → ClientsStand scripts entries threads w.clients
-    → ClientsStand scripts entries threads (world_idle deadline w).clients
-unfolding world_idle
-idle_clients scripts entries threads (Some deadline) w all = all
-idle_clients scripts entries threads None w all = cancelled_stand scripts entries threads w.clients all
-
 pub idle_taken : (scripts : List (List Command)) (run : Run) → AtScripts scripts run → idle_lawful run.state ≡ true → Taken scripts run turn.Idle
 unfolding event_of
-idle_taken scripts run placed lawful =
-    let s : State = run.state in
-    let entry : Entry = entry_with event.Idle (idle s).answer (idle s).seqs in
-    taken_at scripts run turn.Idle event.Idle (idle s) refl (idle_step s lawful) (idle_after scripts run.entries s placed.all)
-    (idle_clients scripts (run.entries ++ entry ∷ []) (length s.core.threads) (next_deadline s) s.world
-    (clients_longer scripts run.entries entry (length s.core.threads) s.world.clients (λ k start. refl) placed.clients))
+idle_taken scripts run placed lawful = taken_at scripts run turn.Idle event.Idle (idle run.state) refl (idles (at_scripts scripts) run.entries run.state placed lawful)
 
 kernel_by : (scripts : List (List Command)) (run : Run) (t : Turn) (works lawful : Bool) → device_has_work run.state ≡ works → idle_lawful run.state ≡ lawful → AtScripts scripts run
     → cond works (Some turn.Device) (cond lawful (Some turn.Idle) None) ≡ Some t → Taken scripts run t

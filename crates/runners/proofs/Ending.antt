@@ -1,103 +1,25 @@
 -- What the runs come to, turn by turn and at their ends.
-use Rattle.std.proofs.Common.{◌≡◌, ℕ, zero, suc, ◌+◌, ◌-◌, ◌<◌, ◌≤◌, Bool, true, false, List, [], ◌∷◌, length, Option, Some, None, refl, ap, sym, ◌∙◌, subst, arith, length-append, drop, get_or, drop-cons, add-one}
+use Rattle.std.proofs.Common.{◌≡◌, ℕ, zero, suc, ◌+◌, ◌-◌, ◌<◌, ◌≤◌, Bool, true, false, List, [], ◌∷◌, length, Option, Some, None, refl, ap, sym, ◌∙◌, subst, arith, drop, get_or, drop-cons, add-one}
 use Rattle.kernel_values.specs.declared.entry.Entry.{Entry}
-use Rattle.kernel_values.specs.declared.entry.Event.{Event}
 use Rattle.kernel_values.specs.declared.scene.Turn.{Turn}
 use Rattle.kernel_values.specs.declared.script.Command.{Command}
 use Rattle.kernel_values.specs.declared.state.State.{State}
 use Rattle.kernel_values.specs.Origin.{Origin}
 use Rattle.kernel_values.specs.SceneLaw.{IsLawfulScene, SceneValue, scripts_of}
-use Rattle.kernel_types.specs.Carried.{CarriedInOrder}
+use Rattle.std.specs.List.{list_all}
+use Rattle.kernel_types.specs.Carried.{CarriedInOrder, is_honest}
 use Rattle.kernel_types.specs.Facts.{is_at_end}
 use Rattle.kernel_types.specs.History.{Legal, state_after}
 use Rattle.kernel_types.specs.Opening.{opening}
-use Rattle.kernel_types.specs.Step.{Stepped, step}
-use Rattle.kernel_types.specs.Turns.{Run, Outturn, ran, refused, grown, event_of, run_event, run_turn, run_from, run_by, replay_of, whole_or_refused, serial_from, serial_turns, next_turn, last_after, history_limit}
+use Rattle.kernel_types.specs.Step.{step}
+use Rattle.kernel_types.specs.Turns.{Run, Outturn, ran, refused, run_turn, run_from, run_by, replay_of, whole_or_refused, serial_from, serial_turns, next_turn, last_after, history_limit}
 use Rattle.kernel_types.specs.Whole.{FollowsScripts}
 use Rattle.kernel_log.specs.Logs.{Log, state_of}
-use Rattle.runners.specs.Runs.{Carries, IsRun, Told, origin_of, state_told, run_told, run_logged, RanSerially, IsRunBy, IsWholeRun, IsCutShort, IsReplay, TookTurn}
+use Rattle.run_laws.proofs.SerialTurns.{from_refused, from_turn, serial_full, serial_over, serial_step, serial_still, turn_grows}
+use Rattle.run_laws.proofs.Going.{next_takes}
+use Rattle.runners.specs.Runs.{Carries, IsRun, Told, origin_of, state_told, run_told, run_logged, RanSerially, StandsStill, StoodStill, IsRunBy, IsWholeRun, IsCutShort, IsReplay, TookTurn}
 use Rattle.runners.specs.declared.steps.Taken.{Taken}
 use Rattle.runners.specs.declared.steps.Taken.TheVariants as taken
-
--- a turn that was taken is one entry more
-
-step_grows : (run next : Run) (e : Event) (r : Option Stepped) → step run.state e ≡ r → run_event step run (Some e) ≡ Some next → length next.entries ≡ length run.entries + 1
-step_grows run next e None r_is is = absurd (cc (rw r_is at is))
-step_grows run next e (Some stepped) r_is is =
-    let found : grown run e stepped ≡ next = cc (rw r_is at is) in
-    ap (λ (r : Run). length r.entries) (sym found) ∙ length-append run.entries _
-
-event_grows : (run next : Run) (e : Option Event) → run_event step run e ≡ Some next → length next.entries ≡ length run.entries + 1
-event_grows run next None is = absurd (cc)
-event_grows run next (Some e) is = step_grows run next e (step run.state e) refl is
-
-pub turn_grows : (scripts : List (List Command)) (run next : Run) (t : Turn) → run_turn step scripts run t ≡ Some next → length next.entries ≡ length run.entries + 1
-turn_grows scripts run next t is = event_grows run next (event_of scripts run t) is
-
--- one turn of a list
-
-pub from_turn : (scripts : List (List Command)) (k : ℕ) (run next : Run) (t : Turn) (turns : List Turn) → run_turn step scripts run t ≡ Some next
-    → run_from step scripts k run (t ∷ turns) ≡ run_from step scripts (k + 1) next turns
-from_turn scripts k run next t turns is = ap (λ (r : Option Run). elim r as (λ _. Outturn) [
-  | None ↦ refused k
-  | Some after ↦ run_from step scripts (k + 1) after turns
-]) is
-
-pub from_refused : (scripts : List (List Command)) (k : ℕ) (run : Run) (t : Turn) (turns : List Turn) → run_turn step scripts run t ≡ None
-    → run_from step scripts k run (t ∷ turns) ≡ refused k
-from_refused scripts k run t turns is = ap (λ (r : Option Run). elim r as (λ _. Outturn) [
-  | None ↦ refused k
-  | Some after ↦ run_from step scripts (k + 1) after turns
-]) is
-
--- the serial turns, one by one
-
-one_turn : (scripts : List (List Command)) (left : ℕ) (last : Option ℕ) (run next : Run) (t : Turn) → next_turn run.state last ≡ Some t
-    → run_turn step scripts run t ≡ Some next → serial_from step scripts (suc left) last run ≡ t ∷ serial_from step scripts left (last_after last t) next
-one_turn scripts left last run next t next_is is =
-    ap (λ (o : Option Turn). elim o as (λ _. List Turn) [
-      | None ↦ []
-      | Some u ↦ elim (run_turn step scripts run u) as (λ _. List Turn) [
-        | None ↦ []
-        | Some after ↦ u ∷ serial_from step scripts left (last_after last u) after
-      ]
-    ]) next_is ∙ ap (λ (r : Option Run). elim r as (λ _. List Turn) [
-      | None ↦ []
-      | Some after ↦ t ∷ serial_from step scripts left (last_after last t) after
-    ]) is
-
-no_turns : (scripts : List (List Command)) (left : ℕ) (last : Option ℕ) (run : Run) → next_turn run.state last ≡ None → serial_from step scripts (suc left) last run ≡ []
-no_turns scripts left last run none_left = ap (λ (o : Option Turn). elim o as (λ _. List Turn) [
-  | None ↦ []
-  | Some u ↦ elim (run_turn step scripts run u) as (λ _. List Turn) [
-    | None ↦ []
-    | Some after ↦ u ∷ serial_from step scripts left (last_after last u) after
-  ]
-]) none_left
-
-pub serial_step : (scripts : List (List Command)) (limit k : ℕ) (last : Option ℕ) (run next : Run) (t : Turn) → k < limit → next_turn run.state last ≡ Some t
-    → run_turn step scripts run t ≡ Some next
-    → run_from step scripts k run (serial_from step scripts (limit - k) last run) ≡ run_from step scripts (k + 1) next (serial_from step scripts (limit - (k + 1)) (last_after last t) next)
-serial_step scripts limit k last run next t below next_is is =
-    let left : limit - k ≡ suc (limit - (k + 1)) = omega (arith, below) in
-    let one : serial_from step scripts (suc (limit - (k + 1))) last run ≡ t ∷ serial_from step scripts (limit - (k + 1)) (last_after last t) next = one_turn scripts (limit - (k + 1)) last run next t next_is is in
-    ap (λ n. run_from step scripts k run (serial_from step scripts n last run)) left
-    ∙ (ap (λ ts. run_from step scripts k run ts) one ∙ from_turn scripts k run next t (serial_from step scripts (limit - (k + 1)) (last_after last t) next) is)
-
-over_by : (scripts : List (List Command)) (left k : ℕ) (last : Option ℕ) (run : Run) → next_turn run.state last ≡ None
-    → run_from step scripts k run (serial_from step scripts left last run) ≡ ran run
-over_by scripts zero k last run none_left = refl
-over_by scripts (suc left) k last run none_left = ap (λ (ts : List Turn). run_from step scripts k run ts) (no_turns scripts left last run none_left)
-
-pub serial_over : (scripts : List (List Command)) (limit k : ℕ) (last : Option ℕ) (run : Run) → next_turn run.state last ≡ None
-    → run_from step scripts k run (serial_from step scripts (limit - k) last run) ≡ ran run
-serial_over scripts limit k last run none_left = over_by scripts (limit - k) k last run none_left
-
-pub serial_full : (scripts : List (List Command)) (limit k : ℕ) (last : Option ℕ) (run : Run) → limit ≤ k
-    → run_from step scripts k run (serial_from step scripts (limit - k) last run) ≡ ran run
-serial_full scripts limit k last run past =
-    let none_left : limit - k ≡ zero = omega (arith, past) in
-    ap (λ n. run_from step scripts k run (serial_from step scripts n last run)) none_left
 
 -- the whole run
 
@@ -130,14 +52,15 @@ whole_run scene log turns run over = record {
 -- a run from the opening, as its turns are counted
 
 pub serial_is : (scene : SceneValue) (told next : Told) → told.origin ≡ record { state = opening scene; scripts = scripts_of scene; made = 0 } → told.history ≡ []
-    → RanSerially told next → run_by scene (serial_turns scene) ≡ ran (run_told next)
+    → run_from step told.origin.scripts 0 (run_told told) (serial_from step told.origin.scripts history_limit None (run_told told)) ≡ ran (run_told next)
+    → run_by scene (serial_turns scene) ≡ ran (run_told next)
 unfolding run_by serial_turns
-serial_is scene told next origin_is none_yet r =
+serial_is scene told next origin_is none_yet run_is =
     let begins : run_told told ≡ record { state = opening scene; entries = [] } =
     ap (λ (es : List Entry). record { state = state_after told.origin.state es; entries = es }) none_yet ∙ ap (λ (o : Origin). record { state = o.state; entries = [] }) origin_is in
     let scripts : told.origin.scripts ≡ scripts_of scene = ap (λ (o : Origin). o.scripts) origin_is in
     sym (ap (λ (cs : List (List Command)). run_from step cs 0 (run_told told) (serial_from step cs history_limit None (run_told told))) scripts
-    ∙ ap (λ (r : Run). run_from step (scripts_of scene) 0 r (serial_from step (scripts_of scene) history_limit None r)) begins) ∙ r.run_is
+    ∙ ap (λ (r : Run). run_from step (scripts_of scene) 0 r (serial_from step (scripts_of scene) history_limit None r)) begins) ∙ run_is
 
 pub listed_is : (scene : SceneValue) (told : Told) (outturn : Outturn) → told.origin ≡ record { state = opening scene; scripts = scripts_of scene; made = 0 } → told.history ≡ []
     → run_from step told.origin.scripts 0 (run_told told) scene.turns ≡ outturn → run_by scene scene.turns ≡ outturn
@@ -191,6 +114,47 @@ ran_full told mid k last stays left past within count = record {
   run_is = sym left ∙ serial_full mid.origin.scripts history_limit k last (run_told mid) past;
   full = λ goes_on. omega (arith, count, past, within);
 }
+
+-- where the turn that is due is not lawful
+
+pub same_told : (one other : Told) → one.origin ≡ other.origin → one.history ≡ other.history → one ≡ other
+same_told one other p q = ap (λ (o : Origin). record { origin = o; history = one.history }) p ∙ ap (λ (es : List Entry). record { origin = other.origin; history = es }) q
+
+pub stood_still : (told mid : Told) (k : ℕ) (last : Option ℕ) (t : Turn) → mid.origin ≡ told.origin → k < history_limit → next_turn (state_told mid) last ≡ Some t
+    → run_turn step mid.origin.scripts (run_told mid) t ≡ None → Left told mid k last → StoodStill told mid
+stood_still told mid k last t stays below due_is unlawful left = record {
+  origin_is = stays;
+  run_is = sym left ∙ serial_still mid.origin.scripts history_limit k last (run_told mid) t below due_is unlawful;
+  last = last;
+  due = t;
+  due_is = due_is;
+  unlawful = unlawful;
+}
+
+hostile_by : (scene : SceneValue) (run : Run) (last : Option ℕ) (due : Turn) (b : Bool) → list_all is_honest scene.clients ≡ b → IsLawfulScene scene
+    → run_by scene (serial_turns scene) ≡ ran run → next_turn run.state last ≡ Some due → run_turn step (scripts_of scene) run due ≡ None → b ≡ false
+hostile_by scene run last due true honest lawful run_is due_is unlawful =
+    let taken : (next : Run) × (run_turn step (scripts_of scene) run due ≡ Some next) = next_takes scene (serial_turns scene) run last due lawful honest run_is due_is in
+    let none : run_turn step (scripts_of scene) run due ≡ None = unlawful in
+    let some : run_turn step (scripts_of scene) run due ≡ Some taken.0 = taken.1 in
+    absurd (cc)
+hostile_by scene run last due false honest lawful run_is due_is unlawful = refl
+
+pub stands_still : (scene : SceneValue) (told next : Told) → IsLawfulScene scene → told.origin ≡ record { state = opening scene; scripts = scripts_of scene; made = 0 } → told.history ≡ []
+    → StoodStill told next → StandsStill scene
+stands_still scene told next lawful origin_is none_yet still =
+    let run_is : run_by scene (serial_turns scene) ≡ ran (run_told next) = serial_is scene told next origin_is none_yet still.run_is in
+    let unlawful : run_turn step (scripts_of scene) (run_told next) still.due ≡ None =
+    subst (λ (o : Origin). run_turn step o.scripts (run_told next) still.due ≡ None) (still.origin_is ∙ origin_is) still.unlawful in
+    record {
+      run = run_told next;
+      run_is = run_is;
+      last = still.last;
+      due = still.due;
+      due_is = still.due_is;
+      unlawful = unlawful;
+      hostile = hostile_by scene (run_told next) still.last still.due (list_all is_honest scene.clients) refl lawful run_is still.due_is unlawful;
+    }
 
 pub history_grows : (mid next : Told) (t : Turn) (k : ℕ) → TookTurn t mid next taken.Stepped → length mid.history ≡ k → length next.history ≡ k + 1
 history_grows mid next t k took count = omega (arith, turn_grows mid.origin.scripts (run_told mid) (run_told next) t took, count)

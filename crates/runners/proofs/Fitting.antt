@@ -4,8 +4,6 @@ use Rattle.std.proofs.lemmas.Bool.{cases_eq}
 use Rattle.std.proofs.lemmas.Bool.Decides.{nat_tests}
 use Rattle.script_actor.specs.Actors.{acting}
 use Rattle.std.specs.Prelude.{◌==◌}
-use Rattle.std.specs.List.{filter_map}
-use Rattle.std.proofs.lemmas.List.Elements.{filter_map-append}
 use mathlib.Core.List.{IsPrefix}
 use Rattle.kernel_values.specs.declared.call.Call.{Call}
 use Rattle.kernel_values.specs.declared.entry.Entry.{Entry}
@@ -14,39 +12,14 @@ use Rattle.kernel_values.specs.declared.entry.Event.TheVariants as event
 use Rattle.kernel_values.specs.declared.reply.Answer.{Answer}
 use Rattle.kernel_values.specs.declared.script.Command.{Command}
 use Rattle.kernel_types.specs.Scripts.{Stand, next_call, answered, stand_on, script_begin, calls_of}
-use Rattle.kernel_types.specs.Whole.{calls_in, answers_in, call_by, answer_by, is_by, is_event_by, final_answer, InScript}
+use Rattle.kernel_types.specs.Whole.{calls_in, answers_in, call_by, is_by, is_event_by, final_answer, InScript}
 use Rattle.runners.specs.declared.place.Place.{Place}
 use Rattle.runners.specs.Places.{Fits, pending, after_final, after_answer, first_place}
-use Rattle.runners.proofs.Scripting.{calls_grow, calls_next, stand_more}
+use Rattle.run_laws.proofs.Entries.{answers_more, calls_more, one_more}
+use Rattle.run_laws.proofs.Scripting.{calls_grow, calls_next, stand_more}
 
 prefix_trans : (xs ys zs : List Call) → IsPrefix xs ys → IsPrefix ys zs → IsPrefix xs zs
 prefix_trans xs ys zs p q = (p.0 ++ q.0, sym (append_assoc xs p.0 q.0) ∙ (ap (λ w. w ++ q.0) p.1 ∙ q.1))
-
--- what one entry adds
-
-abbrev pub one_more : {A : Type 0} → Option A → List A
-one_more None = []
-one_more (Some x) = x ∷ []
-
-one_call : (number start : ℕ) (entry : Entry) (own : Option Call) → call_by number start entry.event ≡ own → filter_map (λ e. call_by number start e.event) (entry ∷ []) ≡ one_more own
-one_call number start entry None is = rw is refl
-one_call number start entry (Some call) is = rw is refl
-
-pub calls_more : (number start : ℕ) (entries : List Entry) (entry : Entry) (own : Option Call) → call_by number start entry.event ≡ own
-    → calls_in number start (entries ++ entry ∷ []) ≡ calls_in number start entries ++ one_more own
-unfolding calls_in
-calls_more number start entries entry own is =
-    filter_map-append (λ e. call_by number start e.event) entries (entry ∷ []) ∙ ap (λ cs. filter_map (λ e. call_by number start e.event) entries ++ cs) (one_call number start entry own is)
-
-one_answer : (number start : ℕ) (entry : Entry) (own : Option Answer) → answer_by number start entry ≡ own → filter_map (answer_by number start) (entry ∷ []) ≡ one_more own
-one_answer number start entry None is = rw is refl
-one_answer number start entry (Some answer) is = rw is refl
-
-pub answers_more : (number start : ℕ) (entries : List Entry) (entry : Entry) (own : Option Answer) → answer_by number start entry ≡ own
-    → answers_in number start (entries ++ entry ∷ []) ≡ answers_in number start entries ++ one_more own
-unfolding answers_in
-answers_more number start entries entry own is =
-    filter_map-append (answer_by number start) entries (entry ∷ []) ∙ ap (λ cs. filter_map (answer_by number start) entries ++ cs) (one_answer number start entry own is)
 
 -- whose an entry is
 

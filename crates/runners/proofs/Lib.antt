@@ -1,10 +1,6 @@
-pub mod Counting
 pub mod Crossing
 pub mod Ending
 pub mod Fitting
-pub mod Numbers
-pub mod Ordering
-pub mod Scripting
 pub mod Serving
 pub mod Starting
 pub mod Stepping

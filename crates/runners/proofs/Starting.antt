@@ -1,5 +1,5 @@
 -- The places of a scene's actors at its beginning.
-use Rattle.std.proofs.Common.{◌≡◌, ℕ, zero, suc, ◌+◌, ◌*◌, ◌≤◌, Bool, true, false, List, [], ◌∷◌, length, map, Some, refl, ap, sym, ◌∙◌, subst, arith, length-append}
+use Rattle.std.proofs.Common.{◌≡◌, ℕ, zero, suc, ◌+◌, ◌*◌, ◌≤◌, Bool, true, false, List, [], ◌∷◌, length, map, Some, refl, ap, sym, ◌∙◌, subst, arith, length-append, inl}
 use Rattle.std.specs.Prelude.{slice_get, nat_le, ◌&&◌}
 use Rattle.std.specs.List.{flat_map, enumerate_from, list_all}
 use Rattle.std.proofs.lemmas.List.{length-map}
@@ -15,15 +15,8 @@ use Rattle.kernel_types.specs.Turns.{history_limit}
 use Rattle.kernel_log.specs.Logs.{Log, state_of}
 use Rattle.runners.specs.declared.place.Place.{Place}
 use Rattle.runners.specs.Places.{Fits, Sound, first_place, most_actors}
+use Rattle.run_laws.proofs.Opening.{threads_many}
 use Rattle.runners.proofs.Fitting.{fits_first}
-
-threads_many : (place : ℕ) (apps : List App) → length (flat_map opening_threads (enumerate_from place apps)) ≡ length (flat_map (λ app. app.threads) apps)
-threads_many place [] = refl
-threads_many place (app ∷ apps) =
-    let own : length (opening_threads (place, app)) ≡ length app.threads = length-map app.threads _ in
-    length-append (opening_threads (place, app)) (flat_map opening_threads (enumerate_from (place + 1) apps))
-    ∙ ((ap (λ n. n + length (flat_map opening_threads (enumerate_from (place + 1) apps))) own ∙ ap (λ n. length app.threads + n) (threads_many (place + 1) apps))
-    ∙ sym (length-append app.threads (flat_map (λ a. a.threads) apps)))
 
 -- as many actors as scripts
 pub actors_many : (scene : SceneValue) → length (statuses (opening scene)) ≡ length (scripts_of scene)
@@ -66,6 +59,11 @@ get_places [] number script is = absurd (cc)
 get_places (first ∷ scripts) zero script is = let same : first ≡ script = cc in ap (λ (s : List Command). Some (first_place s)) same
 get_places (first ∷ scripts) (suc number) script is = get_places scripts number script is
 
+first_start : (scripts : List (List Command)) (number : ℕ) (place : Place) → slice_get (map first_place scripts) number ≡ Some place → place.actor.start ≡ 1
+first_start [] number place is = absurd (cc)
+first_start (first ∷ scripts) zero place is = let same : first_place first ≡ place = cc in ap (λ (p : Place). p.actor.start) (sym same)
+first_start (first ∷ scripts) (suc number) place is = first_start scripts number place is
+
 pub sound_new : (scene : SceneValue) (scripts : List (List Command)) (places : List Place) (log : Log) → scripts ≡ scripts_of scene → length scripts ≤ most_actors → places ≡ map first_place scripts
     → log.origin.state ≡ opening scene → log.origin.made ≡ 0 → log.journal.entries ≡ [] → Sound scripts places log
 unfolding history_limit
@@ -77,6 +75,8 @@ sound_new scene scripts places log scripts_is few places_is state_is made_is non
         ap (λ (ps : List Place). slice_get ps number) places_is ∙ get_places scripts number script script_is,
         subst (λ es. Fits number script es (first_place script)) (sym none_yet) (fits_first number script),
       );
+      ran = λ number place place_is. inl (first_start scripts number place (sym (ap (λ (ps : List Place). slice_get ps number) places_is) ∙ place_is));
+      opened = (scene, state_is);
       many = ap length places_is ∙ length-map scripts first_place;
       actors = ap (λ (s : State). length (statuses s)) state ∙ (actors_many scene ∙ ap length (sym scripts_is));
       few = few;

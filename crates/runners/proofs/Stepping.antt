@@ -1,5 +1,5 @@
 -- What one more entry makes of a run, and of the places.
-use Rattle.std.proofs.Common.{◌≡◌, ℕ, zero, suc, ◌+◌, ◌<◌, ◌≤◌, false, List, [], ◌∷◌, ◌++◌, length, Option, Some, None, refl, ap, sym, ◌∙◌, subst, arith, length-append, inl, inr}
+use Rattle.std.proofs.Common.{◌≡◌, ℕ, zero, suc, ◌+◌, ◌<◌, ◌≤◌, false, List, [], ◌∷◌, ◌++◌, length, Option, Some, None, refl, ap, sym, ◌∙◌, subst, arith, append_assoc, length-append, inl, inr}
 use Rattle.std.specs.Prelude.{slice_get, slice_set, ◌==◌}
 use Rattle.std.specs.Option.{option_map}
 use Rattle.std.proofs.lemmas.Bool.{cases_eq}
@@ -21,11 +21,11 @@ use Rattle.kernel_types.specs.Step.{Stepped, step, statuses}
 use Rattle.kernel_types.specs.Turns.{Run, grown, run_event, event_of, begin_if, history_limit}
 use Rattle.kernel_log.specs.Logs.{Log, state_of, Wrote}
 use Rattle.runners.specs.declared.place.Place.{Place}
-use Rattle.runners.specs.Places.{Fits, Kept, Sound}
+use Rattle.runners.specs.Places.{AllRan, Fits, HasRun, Kept, Sound}
 use Rattle.runners.specs.Runs.{run_logged}
 use Rattle.runners.specs.Steps.{IsSameLog}
 use Rattle.runners.proofs.Fitting.{IsNotBy, fits_other}
-use Rattle.runners.proofs.Counting.{actors_stay}
+use Rattle.run_laws.proofs.Counting.{actors_stay}
 
 state_more : (s : State) (entries : List Entry) (entry : Entry) → state_after s (entries ++ entry ∷ []) ≡ next_state (state_after s entries) entry.event
 state_more s [] entry = refl
@@ -124,16 +124,49 @@ length_set [] k y = refl
 length_set (first ∷ xs) zero y = refl
 length_set (first ∷ xs) (suc k) y = ap (λ n. suc n) (length_set xs k y)
 
+pub set_set : {A : Type 0} (xs : List A) (k : ℕ) (x y : A) → slice_set (slice_set xs k x) k y ≡ slice_set xs k y
+set_set [] k x y = refl
+set_set (first ∷ xs) zero x y = refl
+set_set (first ∷ xs) (suc k) x y = ap (λ ys. first ∷ ys) (set_set xs k x y)
+
+-- by which starts actors ran
+
+ran_longer : (s : State) (entries : List Entry) (entry : Entry) (number start : ℕ) → HasRun s entries number start → HasRun s (entries ++ entry ∷ []) number start
+ran_longer s entries entry number start has = elim has [
+  | inl first ↦ inl first
+  | inr p ↦ inr (p.0, p.1 ++ entry ∷ [], ap (λ es. es ++ entry ∷ []) p.2 ∙ append_assoc p.0 p.1 (entry ∷ []), p.3)
+]
+
+all_ran_longer : (places : List Place) (log longer : Log) (e : Event) (at : ℕ) → Wrote e log longer at → AllRan places log.origin.state log.journal.entries
+    → AllRan places longer.origin.state longer.journal.entries
+all_ran_longer places log longer e at wrote ran number place there =
+    subst (λ (s : State). HasRun s longer.journal.entries number place.actor.start) (sym (ap (λ o. o.state) wrote.origin_is))
+    (subst (λ (es : List Entry). HasRun log.origin.state es number place.actor.start) (sym wrote.entries_are)
+    (ran_longer log.origin.state log.journal.entries wrote.entry number place.actor.start (ran number place there)))
+
+-- with one place changed, in which the actor stands by a start by which it ran
+pub all_ran_set : (places : List Place) (s : State) (entries : List Entry) (number : ℕ) (place moved : Place) → AllRan places s entries → slice_get places number ≡ Some place
+    → HasRun s entries number moved.actor.start → AllRan (slice_set places number moved) s entries
+all_ran_set places s entries number place moved ran there own other x x_is = elim (cases_eq number other) [
+  | inl same ↦ (let here : slice_get (slice_set places number moved) number ≡ Some x = ap (λ n. slice_get (slice_set places number moved) n) same ∙ x_is in
+      let is : moved ≡ x = (let set : slice_get (slice_set places number moved) number ≡ Some moved = get_set_same places number place moved there in cc) in
+      subst (λ (p : Place). HasRun s entries other p.actor.start) is (subst (λ n. HasRun s entries n moved.actor.start) same own))
+  | inr differs ↦ ran other x (sym (get_set_other places number other moved differs) ∙ x_is)
+]
+
 -- the places after a step
 
 rest_of_sound : (scripts : List (List Command)) (places moved : List Place) (log longer : Log) (e : Event) (at : ℕ) → Sound scripts places log → Wrote e log longer at
-    → length log.journal.entries < history_limit → length moved ≡ length places → Kept scripts moved longer.journal.entries → Sound scripts moved longer
-rest_of_sound scripts places moved log longer e at sound wrote room many kept =
+    → length log.journal.entries < history_limit → length moved ≡ length places → Kept scripts moved longer.journal.entries
+    → AllRan moved log.origin.state log.journal.entries → Sound scripts moved longer
+rest_of_sound scripts places moved log longer e at sound wrote room many kept ran =
     let found : (stepped : Stepped) × (step (state_of log) e ≡ Some stepped) × (wrote.entry ≡ entry_of e stepped) = wrote_is (state_of log) e wrote.entry wrote.entry_is in
     let state : state_of longer ≡ found.0.state = longer_state log longer e at wrote found.0 found.1 found.2 in
     let longer_by : length longer.journal.entries ≡ length log.journal.entries + 1 = ap length wrote.entries_are ∙ length-append log.journal.entries (wrote.entry ∷ []) in
     record {
       kept = kept;
+      ran = all_ran_longer moved log longer e at wrote ran;
+      opened = (sound.opened.0, ap (λ o. o.state) wrote.origin_is ∙ sound.opened.1);
       many = many ∙ sound.many;
       actors = ap (λ (s : State). length (statuses s)) state ∙ ((ap (λ (s : State). length (statuses s)) (sym (next_is (state_of log) e found.0 found.1)) ∙ actors_stay (state_of log) e) ∙ sound.actors);
       few = sound.few;
@@ -172,16 +205,18 @@ kept_one scripts places entries number place moved kept there own other script s
 
 -- after a step of an actor
 pub sound_own : (scripts : List (List Command)) (places : List Place) (log longer : Log) (e : Event) (at number : ℕ) (place moved : Place) → Sound scripts places log → (wrote : Wrote e log longer at)
-    → length log.journal.entries < history_limit → slice_get places number ≡ Some place
+    → length log.journal.entries < history_limit → slice_get places number ≡ Some place → moved.actor.start ≡ place.actor.start
     → ((script : List Command) → slice_get scripts number ≡ Some script → Fits number script (log.journal.entries ++ wrote.entry ∷ []) moved)
     → ((other : ℕ) → (number ≡ other → ⊥) → IsNotBy other e) → Sound scripts (slice_set places number moved) longer
-sound_own scripts places log longer e at number place moved sound wrote room there own apart =
+sound_own scripts places log longer e at number place moved sound wrote room there same_start own apart =
     let is : wrote.entry.event ≡ e = event_by log longer e at wrote in
     let kept : Kept scripts (slice_set places number moved) (log.journal.entries ++ wrote.entry ∷ []) =
     kept_own scripts places log.journal.entries wrote.entry number place moved sound.kept there own
     (λ other differs. subst (λ (f : Event). IsNotBy other f) (sym is) (apart other differs)) in
     rest_of_sound scripts places (slice_set places number moved) log longer e at sound wrote room (length_set places number moved)
     (subst (λ (es : List Entry). Kept scripts (slice_set places number moved) es) (sym wrote.entries_are) kept)
+    (all_ran_set places log.origin.state log.journal.entries number place moved sound.ran there
+    (subst (λ n. HasRun log.origin.state log.journal.entries number n) (sym same_start) (sound.ran number place there)))
 
 -- after a step of none
 pub sound_free : (scripts : List (List Command)) (places : List Place) (log longer : Log) (e : Event) (at : ℕ) → Sound scripts places log → Wrote e log longer at
@@ -191,7 +226,7 @@ sound_free scripts places log longer e at sound wrote room apart =
     let kept : Kept scripts places (log.journal.entries ++ wrote.entry ∷ []) = λ other script script_is.
     (let old : (x : Place) × (slice_get places other ≡ Some x) × Fits other script log.journal.entries x = sound.kept other script script_is in
     (old.0, old.1, fits_other other script log.journal.entries wrote.entry old.0 (subst (λ (f : Event). IsNotBy other f) (sym is) (apart other)) old.2)) in
-    rest_of_sound scripts places places log longer e at sound wrote room refl (subst (λ (es : List Entry). Kept scripts places es) (sym wrote.entries_are) kept)
+    rest_of_sound scripts places places log longer e at sound wrote room refl (subst (λ (es : List Entry). Kept scripts places es) (sym wrote.entries_are) kept) sound.ran
 
 -- where nothing was written
 pub sound_same : (scripts : List (List Command)) (places : List Place) (log same : Log) → Sound scripts places log → IsSameLog log same → Sound scripts places same
@@ -199,6 +234,8 @@ sound_same scripts places log same sound is =
     let state : state_of same ≡ state_of log = ap (λ (s : State). state_after s same.journal.entries) (ap (λ o. o.state) is.0) ∙ ap (λ (es : List Entry). state_after log.origin.state es) is.1 in
     record {
       kept = subst (λ (es : List Entry). Kept scripts places es) (sym is.1) sound.kept;
+      ran = subst (λ (s : State). AllRan places s same.journal.entries) (sym (ap (λ o. o.state) is.0)) (subst (λ (es : List Entry). AllRan places log.origin.state es) (sym is.1) sound.ran);
+      opened = (sound.opened.0, ap (λ o. o.state) is.0 ∙ sound.opened.1);
       many = sound.many;
       actors = ap (λ (s : State). length (statuses s)) state ∙ sound.actors;
       few = sound.few;
@@ -208,7 +245,7 @@ sound_same scripts places log same sound is =
 
 -- the answer at the place of the last entry is that entry's
 
-get_last : (entries : List Entry) (entry : Entry) → slice_get (entries ++ entry ∷ []) (length entries) ≡ Some entry
+pub get_last : (entries : List Entry) (entry : Entry) → slice_get (entries ++ entry ∷ []) (length entries) ≡ Some entry
 get_last [] entry = refl
 get_last (first ∷ entries) entry = get_last entries entry
 

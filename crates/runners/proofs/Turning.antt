@@ -1,6 +1,8 @@
 -- What a turn makes of a kernel with its actors' scripts.
-use Rattle.std.proofs.Common.{◌≡◌, ℕ, zero, suc, ◌<◌, ◌≤◌, true, false, List, [], ◌∷◌, ◌++◌, length, Option, Some, None, Result, Ok, Err, refl, ap, sym, ◌∙◌, subst, arith, get_or}
-use Rattle.std.specs.Prelude.{slice_get, slice_set, IfOk, OnErr}
+use Rattle.std.proofs.Common.{◌≡◌, ℕ, zero, suc, ◌+◌, ◌<◌, ◌≤◌, Bool, true, false, cond, List, [], ◌∷◌, ◌++◌, length, Option, Some, None, Result, Ok, Err, refl, ap, sym, ◌∙◌, subst, arith, get_or, append-nil, inl, inr}
+use Rattle.std.proofs.lemmas.Bool.{cases_lt}
+use Rattle.std.proofs.lemmas.Bool.Decides.{nat_tests}
+use Rattle.std.specs.Prelude.{slice_get, slice_set, nat_lt, IfOk, OnErr}
 use Rattle.std.specs.Option.{option_map}
 use Rattle.std.proofs.lemmas.Option.{slice_get_past, slice_get_within, slice_get-get_or}
 use Rattle.kernel_values.specs.declared.call.Call.{Call}
@@ -12,9 +14,14 @@ use Rattle.kernel_values.specs.declared.entry.ActorStatus.{ActorStatus}
 use Rattle.kernel_values.specs.declared.entry.ActorStatus.TheVariants as status
 use Rattle.kernel_values.specs.declared.scene.Turn.{Turn}
 use Rattle.kernel_values.specs.declared.scene.Turn.TheVariants as turn
+use Rattle.kernel_values.specs.declared.reply.Answer.{Answer}
 use Rattle.kernel_values.specs.declared.script.Command.{Command}
+use Rattle.kernel_values.specs.declared.state.State.{State}
+use Rattle.kernel_values.specs.SceneLaw.{SceneValue}
 use Rattle.kernel_types.specs.Scripts.{next_call}
-use Rattle.kernel_types.specs.Whole.{FollowsScripts}
+use Rattle.kernel_types.specs.Whole.{FollowsScripts, answers_in, calls_in, final_answer}
+use Rattle.kernel_types.specs.History.{Legal, state_after}
+use Rattle.kernel_types.specs.Opening.{opening}
 use Rattle.kernel_types.specs.Facts.{status_at}
 use Rattle.kernel_types.specs.Kernel.{step_limit}
 use Rattle.kernel_types.specs.Step.{Stepped, step, statuses}
@@ -24,11 +31,13 @@ use Rattle.script_actor.specs.Actors.{acting}
 use Rattle.runners.specs.declared.place.Place.{Place}
 use Rattle.runners.specs.declared.steps.Taken.{Taken}
 use Rattle.runners.specs.declared.steps.Taken.TheVariants as taken
-use Rattle.runners.specs.Places.{Fits, Sound, after_answer}
+use Rattle.run_laws.specs.Answered.{HasAnswers, IsFrom, Open}
+use Rattle.run_laws.proofs.Answering.{first_rises, has_answers, starts_rise}
+use Rattle.runners.specs.Places.{Fits, HasRun, Sound, after_answer, after_final, anew, pending}
 use Rattle.runners.specs.Runs.{Told, told_of, state_told, run_told, run_logged, TookTurn}
 use Rattle.runners.specs.Steps.{IsSameLog, MadeBy}
 use Rattle.runners.proofs.Fitting.{IsNotBy, fits_begin, fits_resume, fits_anew}
-use Rattle.runners.proofs.Stepping.{took_event, event_by, begin_means, resume_means, begin_not_by, resume_not_by, length_set, kept_one, sound_own, sound_same}
+use Rattle.runners.proofs.Stepping.{took_event, event_by, begin_means, resume_means, all_ran_set, begin_not_by, resume_not_by, get_set_same, length_set, kept_one, sound_own, sound_same}
 
 -- what stands in the type
 
@@ -105,6 +114,15 @@ sound_stays scripts places log same number place stays sound is there place_is =
     subst (λ (ps : List Place). Sound scripts ps same) (sym (ap (λ (p : Place). slice_set places number p) place_is ∙ set_stays places number place there))
     (sound_same scripts places log same sound is)
 
+-- an actor that goes on or waits is in the start that it was in
+
+same_start_final : (place : Place) (given : Option Answer) → (after_final place given).actor.start ≡ place.actor.start
+same_start_final place None = refl
+same_start_final place (Some given) = refl
+
+same_start : (place : Place) (given : Answer) → (after_answer place given).actor.start ≡ place.actor.start
+same_start place given = same_start_final place (final_answer given)
+
 -- the step of an actor, whatever came of it
 
 pub sound_step : (result : Result Taken NoMemory) (scripts : List (List Command)) (places : List Place) (log after : Log) (e : Event) (number : ℕ) (place moved : Place) → Sound scripts places log
@@ -114,7 +132,7 @@ pub sound_step : (result : Result Taken NoMemory) (scripts : List (List Command)
     → IfOk result (λ came. MadeBy e log after place moved came) → OnErr result (IsSameLog log after) → OnErr result (moved ≡ place)
     → Sound scripts (slice_set places number moved) after
 sound_step (Ok taken.Stepped) scripts places log after e number place moved sound room there own apart made same stays =
-    sound_own scripts places log after e made.0 number place moved sound made.1 room there
+    sound_own scripts places log after e made.0 number place moved sound made.1 room there (ap (λ (p : Place). p.actor.start) made.2 ∙ same_start place made.1.entry.answer)
     (λ script script_is. subst (λ (p : Place). Fits number script (log.journal.entries ++ made.1.entry ∷ []) p) (sym made.2) (own script made.1.entry script_is (event_by log after e made.0 made.1))) apart
 sound_step (Ok taken.Unlawful) scripts places log after e number place moved sound room there own apart made same stays =
     sound_stays scripts places log after number place moved sound made.1 there made.2
@@ -141,8 +159,8 @@ place_there scripts places log number script place sound script_is place_is =
 
 pub sound_anew : (scripts : List (List Command)) (places : List Place) (log : Log) (number start : ℕ) (script : List Command) (place fresh : Place) → Sound scripts places log
     → slice_get scripts number ≡ Some script → slice_get places number ≡ Some place → place.actor.start < start → fresh ≡ record { actor = acting script start; waits = false }
-    → Sound scripts (slice_set places number fresh) log
-sound_anew scripts places log number start script place fresh sound script_is there later is = record {
+    → status_at (state_of log) number ≡ Some (status.Running start) → Sound scripts (slice_set places number fresh) log
+sound_anew scripts places log number start script place fresh sound script_is there later is runs = record {
   kept = kept_one scripts places log.journal.entries number place fresh sound.kept there
       (λ other_script other_is. (let same : other_script ≡ script = cc (other_is, script_is) in
       subst (λ (s : List Command). Fits number s log.journal.entries fresh) (sym same)
@@ -150,12 +168,39 @@ sound_anew scripts places log number start script place fresh sound script_is th
       (let kept : (x : Place) × (slice_get places number ≡ Some x) × Fits number script log.journal.entries x = sound.kept number script script_is in
       let one : kept.0 ≡ place = cc (kept.1, there) in
       fits_anew number start script log.journal.entries kept.0 kept.2 (subst (λ (p : Place). p.actor.start < start) (sym one) later)))));
+  ran = all_ran_set places log.origin.state log.journal.entries number place fresh sound.ran there
+      (inr (log.journal.entries, [], sym (append-nil log.journal.entries), runs ∙ ap (λ (p : Place). Some (status.Running p.actor.start)) (sym is)));
+  opened = sound.opened;
   many = length_set places number fresh ∙ sound.many;
   actors = sound.actors;
   few = sound.few;
   fresh = sound.fresh;
   short = sound.short;
 }
+
+-- the place of an actor that runs, which begins its script anew where it was started again
+
+sound_at_by : (scripts : List (List Command)) (places : List Place) (log : Log) (number start : ℕ) (script : List Command) (place : Place) (b : Bool) → nat_lt place.actor.start start ≡ b
+    → Sound scripts places log → slice_get scripts number ≡ Some script → slice_get places number ≡ Some place → status_at (state_of log) number ≡ Some (status.Running start)
+    → Sound scripts (slice_set places number (cond b (record { actor = acting script start; waits = false }) place)) log
+sound_at_by scripts places log number start script place true later sound script_is there runs =
+    sound_anew scripts places log number start script place (record { actor = acting script start; waits = false }) sound script_is there (grind (arith, nat_tests)) refl runs
+sound_at_by scripts places log number start script place false later sound script_is there runs =
+    sound_stays scripts places log log number place place sound (refl, refl) there refl
+
+pub sound_at : (scripts : List (List Command)) (places : List Place) (log : Log) (number start : ℕ) (script : List Command) (place : Place) → Sound scripts places log
+    → slice_get scripts number ≡ Some script → slice_get places number ≡ Some place → status_at (state_of log) number ≡ Some (status.Running start)
+    → Sound scripts (slice_set places number (anew script start place)) log
+sound_at scripts places log number start script place sound script_is there runs =
+    sound_at_by scripts places log number start script place (nat_lt place.actor.start start) refl sound script_is there runs
+
+start_at_by : (start : ℕ) (script : List Command) (place : Place) (b : Bool) → nat_lt place.actor.start start ≡ b
+    → start ≤ (cond b (record { actor = acting script start; waits = false }) place).actor.start
+start_at_by start script place true later = omega arith
+start_at_by start script place false same = grind (arith, nat_tests)
+
+pub start_at : (start : ℕ) (script : List Command) (place : Place) → start ≤ (anew script start place).actor.start
+start_at start script place = start_at_by start script place (nat_lt place.actor.start start) refl
 
 -- of the actor at a place
 
@@ -187,41 +232,135 @@ pub call_means : (scripts : List (List Command)) (places : List Place) (log : Lo
 call_means scripts places log number start script place what sound script_is there start_is runs next =
     begin_means scripts log number start script place what script_is (fits_there scripts places log number script place sound script_is there) start_is runs next
 
--- the turn of an actor that runs, and of one that waits
-
-pub record Stands (told : Told) (scripts : List (List Command)) (places : List Place) (log : Log) (number start : ℕ) (place : Place) (what : ActorStatus) : Type 0 where
-  is : told ≡ told_of scripts log
-  sound : Sound scripts places log
-  status_is : status_at (state_of log) number ≡ Some what
-  there : slice_get places number ≡ Some place
-  start_is : place.actor.start ≡ start
-
-pub stands : (told : Told) (scripts : List (List Command)) (places : List Place) (log : Log) (number start : ℕ) (place : Place) (what : ActorStatus) → told ≡ told_of scripts log
-    → Sound scripts places log → status_at (state_told told) number ≡ Some what → place ≡ get_or places number place → place.actor.start ≡ start
-    → Stands told scripts places log number start place what
-stands told scripts places log number start place what is sound status_is place_is start_is =
-    let status : status_at (state_of log) number ≡ Some what = subst (λ (t : Told). status_at (state_told t) number ≡ Some what) is status_is in
-    let below : number < length places = omega (arith, slice_get_within (statuses (state_of log)) number what status, sound.many, sound.actors) in
-    record {
-      is = is;
-      sound = sound;
-      status_is = status;
-      there = slice_get-get_or places number place below ∙ ap (λ (p : Place). Some p) (sym place_is);
-      start_is = start_is;
-    }
-
 has_script : (scripts : List (List Command)) (places : List Place) (log : Log) (number : ℕ) (what : ActorStatus) → Sound scripts places log → status_at (state_of log) number ≡ Some what
     → (script : List Command) × (slice_get scripts number ≡ Some script)
 has_script scripts places log number what sound status_is =
     let below : number < length scripts = omega (arith, slice_get_within (statuses (state_of log)) number what status_is, sound.actors) in
     (get_or scripts number [], slice_get-get_or scripts number [] below)
 
+-- What the history says of the place: it is of the start in which the actor is, and waits where the actor waits.
+
+from_opening : (scene : SceneValue) (entries : List Entry) → Legal (opening scene) entries → (number start : ℕ) → HasRun (opening scene) entries number start
+    → IsFrom start (status_at (state_after (opening scene) entries) number)
+from_opening scene entries legal number start has = elim has [
+  | inl first ↦ subst (λ n. IsFrom n (status_at (state_after (opening scene) entries) number)) (sym first) (first_rises scene entries number legal)
+  | inr p ↦ subst (λ es. IsFrom start (status_at (state_after (opening scene) es) number)) (sym p.2)
+      (starts_rise scene p.0 p.1 number start (subst (λ es. Legal (opening scene) es) p.2 legal) p.3)
+]
+
+rises : (scripts : List (List Command)) (places : List Place) (log : Log) (number : ℕ) (place : Place) (what : ActorStatus) → Sound scripts places log
+    → Legal log.origin.state log.journal.entries → slice_get places number ≡ Some place → status_at (state_of log) number ≡ Some what → IsFrom place.actor.start (Some what)
+rises scripts places log number place what sound legal there status_is =
+    let from : IsFrom place.actor.start (status_at (state_of log) number) =
+    subst (λ (s : State). Legal s log.journal.entries → HasRun s log.journal.entries number place.actor.start → IsFrom place.actor.start (status_at (state_after s log.journal.entries) number))
+    (sym sound.opened.1) (λ l has. from_opening sound.opened.0 log.journal.entries l number place.actor.start has) legal (sound.ran number place there) in
+    subst (λ (o : Option ActorStatus). IsFrom place.actor.start o) status_is from
+
+answered_so : (scripts : List (List Command)) (places : List Place) (log : Log) (number : ℕ) (what : ActorStatus) → Sound scripts places log → Legal log.origin.state log.journal.entries
+    → status_at (state_of log) number ≡ Some what → HasAnswers number log.journal.entries (Some what)
+answered_so scripts places log number what sound legal status_is =
+    let has : HasAnswers number log.journal.entries (status_at (state_of log) number) =
+    subst (λ (s : State). Legal s log.journal.entries → HasAnswers number log.journal.entries (status_at (state_after s log.journal.entries) number))
+    (sym sound.opened.1) (λ l. has_answers sound.opened.0 log.journal.entries number l) legal in
+    subst (λ (o : Option ActorStatus). HasAnswers number log.journal.entries o) status_is has
+
+none_pending : (b : Bool) → pending b ≡ 0 → b ≡ false
+none_pending true is = absurd (omega (arith, is))
+none_pending false is = refl
+
+one_pending : (b : Bool) → pending b ≡ 1 → b ≡ true
+one_pending true is = refl
+one_pending false is = absurd (omega (arith, is))
+
+abbrev pub waits_in : ActorStatus → Bool
+waits_in (status.Waiting start) = true
+waits_in other = false
+
+pub record IsInStep (place : Place) (start : ℕ) (what : ActorStatus) : Type 0 where
+  pub start_is : place.actor.start ≡ start
+  pub waits_is : place.waits ≡ waits_in what
+
+pub runs_in_step : (scripts : List (List Command)) (places : List Place) (log : Log) (number start : ℕ) (place : Place) → Sound scripts places log
+    → Legal log.origin.state log.journal.entries → slice_get places number ≡ Some place → status_at (state_of log) number ≡ Some (status.Running start) → start ≤ place.actor.start
+    → IsInStep place start (status.Running start)
+runs_in_step scripts places log number start place sound legal there runs low =
+    let entries : List Entry = log.journal.entries in
+    let script : (c : List Command) × (slice_get scripts number ≡ Some c) = has_script scripts places log number (status.Running start) sound runs in
+    let f : Fits number script.0 entries place = fits_there scripts places log number script.0 place sound script.1 there in
+    let rise : IsFrom place.actor.start (Some (status.Running start)) = rises scripts places log number place (status.Running start) sound legal there runs in
+    let same : place.actor.start ≡ start = omega (arith, rise, low) in
+    let even : Open 0 number start entries = answered_so scripts places log number (status.Running start) sound legal runs in
+    let count : length (calls_in number start entries) ≡ length (answers_in number start entries) + pending place.waits =
+    subst (λ n. length (calls_in number n entries) ≡ length (answers_in number n entries) + pending place.waits) same f.count in
+    record { start_is = same; waits_is = none_pending place.waits (omega (arith, even, count)) }
+
+pub waits_in_step : (scripts : List (List Command)) (places : List Place) (log : Log) (number start : ℕ) (place : Place) → Sound scripts places log
+    → Legal log.origin.state log.journal.entries → slice_get places number ≡ Some place → status_at (state_of log) number ≡ Some (status.Waiting start)
+    → IsInStep place start (status.Waiting start)
+waits_in_step scripts places log number start place sound legal there waits =
+    let entries : List Entry = log.journal.entries in
+    let script : (c : List Command) × (slice_get scripts number ≡ Some c) = has_script scripts places log number (status.Waiting start) sound waits in
+    let f : Fits number script.0 entries place = fits_there scripts places log number script.0 place sound script.1 there in
+    let rise : IsFrom place.actor.start (Some (status.Waiting start)) = rises scripts places log number place (status.Waiting start) sound legal there waits in
+    let odd : Open 1 number start entries = answered_so scripts places log number (status.Waiting start) sound legal waits in
+    let same : place.actor.start ≡ start = elim (cases_lt place.actor.start start) [
+      | inl before ↦ absurd (omega (arith, odd, ap length (f.later start before).0, ap length (f.later start before).1))
+      | inr past ↦ omega (arith, rise, past)
+    ] in
+    let count : length (calls_in number start entries) ≡ length (answers_in number start entries) + pending place.waits =
+    subst (λ n. length (calls_in number n entries) ≡ length (answers_in number n entries) + pending place.waits) same f.count in
+    record { start_is = same; waits_is = one_pending place.waits (omega (arith, odd, count)) }
+
+-- the turn of an actor that runs, and of one that waits
+
+pub record Stands (told : Told) (scripts : List (List Command)) (places : List Place) (log : Log) (number start : ℕ) (place : Place) (what : ActorStatus) : Type 0 where
+  is : told ≡ told_of scripts log
+  pub sound : Sound scripts places log
+  status_is : status_at (state_of log) number ≡ Some what
+  there : slice_get places number ≡ Some place
+  in_step : IsInStep place start what
+
+-- the place of an actor of the scene
+at_place : (scripts : List (List Command)) (places : List Place) (log : Log) (number : ℕ) (place : Place) (what : ActorStatus) → Sound scripts places log
+    → status_at (state_of log) number ≡ Some what → place ≡ get_or places number place → slice_get places number ≡ Some place
+at_place scripts places log number place what sound status_is place_is =
+    let below : number < length places = omega (arith, slice_get_within (statuses (state_of log)) number what status_is, sound.many, sound.actors) in
+    slice_get-get_or places number place below ∙ ap (λ (p : Place). Some p) (sym place_is)
+
+pub stands_waiting : (told : Told) (scripts : List (List Command)) (places : List Place) (log : Log) (number start : ℕ) (place : Place) → told ≡ told_of scripts log
+    → Sound scripts places log → Legal log.origin.state log.journal.entries → status_at (state_told told) number ≡ Some (status.Waiting start) → place ≡ get_or places number place
+    → Stands told scripts places log number start place (status.Waiting start)
+stands_waiting told scripts places log number start place is sound legal status_is place_is =
+    let waits : status_at (state_of log) number ≡ Some (status.Waiting start) = subst (λ (t : Told). status_at (state_told t) number ≡ Some (status.Waiting start)) is status_is in
+    let there : slice_get places number ≡ Some place = at_place scripts places log number place (status.Waiting start) sound waits place_is in
+    record { is = is; sound = sound; status_is = waits; there = there; in_step = waits_in_step scripts places log number start place sound legal there waits }
+
+-- with the place of an actor that runs, by its start
+pub stands_running : (told : Told) (scripts : List (List Command)) (places : List Place) (log : Log) (number start : ℕ) (script : List Command) (place now : Place) → told ≡ told_of scripts log
+    → Sound scripts places log → Legal log.origin.state log.journal.entries → status_at (state_told told) number ≡ Some (status.Running start)
+    → slice_get scripts number ≡ Some script → place ≡ get_or places number place → now ≡ anew script start place
+    → Stands told scripts (slice_set places number now) log number start now (status.Running start)
+stands_running told scripts places log number start script place now is sound legal status_is script_is place_is now_is =
+    let runs : status_at (state_of log) number ≡ Some (status.Running start) = subst (λ (t : Told). status_at (state_told t) number ≡ Some (status.Running start)) is status_is in
+    let there : slice_get places number ≡ Some place = at_place scripts places log number place (status.Running start) sound runs place_is in
+    let sound_now : Sound scripts (slice_set places number now) log =
+    subst (λ (p : Place). Sound scripts (slice_set places number p) log) (sym now_is) (sound_at scripts places log number start script place sound script_is there runs) in
+    let there_now : slice_get (slice_set places number now) number ≡ Some now = get_set_same places number place now there in
+    record {
+      is = is;
+      sound = sound_now;
+      status_is = runs;
+      there = there_now;
+      in_step = runs_in_step scripts (slice_set places number now) log number start now sound_now legal there_now runs
+          (subst (λ (p : Place). start ≤ p.actor.start) (sym now_is) (start_at start script place));
+    }
+
 calls : (told : Told) (scripts : List (List Command)) (places : List Place) (log : Log) (number start : ℕ) (place : Place) (what : Option Call)
     → Stands told scripts places log number start place (status.Running start) → next_call place.actor.script place.actor.stand ≡ what
     → event_of scripts (run_logged log) (turn.Actor number) ≡ begin_if number start what
 calls told scripts places log number start place what s next =
     let script : (c : List Command) × (slice_get scripts number ≡ Some c) = has_script scripts places log number (status.Running start) s.sound s.status_is in
-    call_means scripts places log number start script.0 place what s.sound script.1 s.there s.start_is s.status_is next
+    call_means scripts places log number start script.0 place what s.sound script.1 s.there s.in_step.start_is s.status_is next
 
 pub over_call : (told : Told) (scripts : List (List Command)) (places : List Place) (log : Log) (number start : ℕ) (place : Place)
     → Stands told scripts places log number start place (status.Running start) → next_call place.actor.script place.actor.stand ≡ None
@@ -229,12 +368,12 @@ pub over_call : (told : Told) (scripts : List (List Command)) (places : List Pla
 over_call told scripts places log number start place s next = nothing_turn (turn.Actor number) told scripts log s.is (calls told scripts places log number start place None s next)
 
 pub sound_call : (result : Result Taken NoMemory) (told : Told) (scripts : List (List Command)) (places : List Place) (log after : Log) (number start : ℕ) (place moved : Place) (what : Call)
-    → Stands told scripts places log number start place (status.Running start) → length told.history < history_limit → place.waits ≡ false
+    → Stands told scripts places log number start place (status.Running start) → length told.history < history_limit
     → next_call place.actor.script place.actor.stand ≡ Some what → IfOk result (λ came. MadeBy (event.Begin (record { 0 = number }) start what) log after place moved came)
     → OnErr result (IsSameLog log after) → OnErr result (moved ≡ place) → Sound scripts (slice_set places number moved) after
-sound_call result told scripts places log after number start place moved what s room runs next made same stays =
+sound_call result told scripts places log after number start place moved what s room next made same stays =
     sound_step result scripts places log after (event.Begin (record { 0 = number }) start what) number place moved s.sound (room_is told scripts log s.is room) s.there
-    (call_fits scripts places log number start place what s.sound s.there runs s.start_is next) (begin_not_by number start what) made same stays
+    (call_fits scripts places log number start place what s.sound s.there s.in_step.waits_is s.in_step.start_is next) (begin_not_by number start what) made same stays
 
 pub taken_call : (result : Result Taken NoMemory) (told : Told) (scripts : List (List Command)) (places : List Place) (log after : Log) (number start : ℕ) (place moved : Place) (what : Call)
     → Stands told scripts places log number start place (status.Running start) → next_call place.actor.script place.actor.stand ≡ Some what
@@ -245,12 +384,12 @@ taken_call result told scripts places log after number start place moved what s 
     (calls told scripts places log number start place (Some what) s next) made
 
 pub sound_resume : (result : Result Taken NoMemory) (told : Told) (scripts : List (List Command)) (places : List Place) (log after : Log) (number start : ℕ) (place moved : Place)
-    → Stands told scripts places log number start place (status.Waiting start) → length told.history < history_limit → place.waits ≡ true
+    → Stands told scripts places log number start place (status.Waiting start) → length told.history < history_limit
     → IfOk result (λ came. MadeBy (event.Resume (record { 0 = number }) start) log after place moved came)
     → OnErr result (IsSameLog log after) → OnErr result (moved ≡ place) → Sound scripts (slice_set places number moved) after
-sound_resume result told scripts places log after number start place moved s room waits made same stays =
+sound_resume result told scripts places log after number start place moved s room made same stays =
     sound_step result scripts places log after (event.Resume (record { 0 = number }) start) number place moved s.sound (room_is told scripts log s.is room) s.there
-    (resume_fits scripts places log number start place s.sound s.there waits s.start_is) (resume_not_by number start) made same stays
+    (resume_fits scripts places log number start place s.sound s.there s.in_step.waits_is s.in_step.start_is) (resume_not_by number start) made same stays
 
 pub taken_resume : (result : Result Taken NoMemory) (told : Told) (scripts : List (List Command)) (places : List Place) (log after : Log) (number start : ℕ) (place moved : Place)
     → Stands told scripts places log number start place (status.Waiting start)

@@ -1,6 +1,6 @@
 -- What a worker's turn makes of its pass.
-use Rattle.std.proofs.Common.{◌≡◌, ◌≤◌, ℕ, zero, suc, true, false, List, [], ◌∷◌, ◌++◌, length, Option, Some, None, refl, ap, sym, ◌∙◌, subst, append_assoc, append-nil, arith}
-use Rattle.std.specs.Prelude.{slice_get, All}
+use Rattle.std.proofs.Common.{◌≡◌, ◌≤◌, ℕ, zero, suc, true, false, List, [], ◌∷◌, ◌++◌, length, Some, refl, ap, sym, ◌∙◌, subst, append_assoc, append-nil, arith}
+use Rattle.std.specs.Prelude.{slice_get}
 use Rattle.std.proofs.lemmas.List.Elements.{All-nil, All-cons, All-append, All-weaker}
 use mathlib.Core.List.{IsPrefix}
 use Rattle.kernel_values.specs.Origin.{Origin}
@@ -120,7 +120,7 @@ went_more actor v u w tries last told next in_is out_is from begins adds origin 
 -- whether a step was made
 
 pub step_adds_own : (actor : ℕ) (r : Round) (told next : Told) → is_step r ≡ true → Served actor told next r → AddsOwn actor told.history next.history
-step_adds_own actor (round.Stepped answered) told next is served = served
+step_adds_own actor (round.Stepped answered) told next is served = served.0
 step_adds_own actor round.Whole told next is served = absurd (cc)
 step_adds_own actor round.TooLong told next is served = absurd (cc)
 step_adds_own actor (round.Asks start) told next is served = absurd (cc)

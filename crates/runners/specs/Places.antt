@@ -1,8 +1,14 @@
 -- Where each actor stands at its script, and how that fits to a history.
-use Rattle.std.specs.Prelude.{◌≡◌, ◌≤◌, ◌<◌, ◌+◌, ◌&&◌, ℕ, Bool, true, false, List, [], length, Option, Some, None, slice_get}
+use Rattle.std.specs.Prelude.{◌≡◌, ◌≤◌, ◌<◌, ◌+◌, ◌-◌, ◌++◌, ◌&&◌, ◌⊎◌, ℕ, Bool, true, false, List, [], length, Option, Some, None, slice_get, nat_lt, if◌then◌else◌}
+use Rattle.kernel_values.specs.SceneLaw.{SceneValue}
+use Rattle.kernel_values.specs.declared.entry.ActorStatus.TheVariants as status
 use Rattle.kernel_values.specs.declared.entry.Entry.{Entry}
 use Rattle.kernel_values.specs.declared.reply.Answer.{Answer}
 use Rattle.kernel_values.specs.declared.script.Command.{Command}
+use Rattle.kernel_values.specs.declared.state.State.{State}
+use Rattle.kernel_types.specs.Facts.{status_at}
+use Rattle.kernel_types.specs.History.{state_after}
+use Rattle.kernel_types.specs.Opening.{opening}
 use Rattle.kernel_types.specs.Scripts.{script_begin, stand_on, answered}
 use Rattle.kernel_types.specs.Whole.{calls_in, answers_in, final_answer, InScript}
 use Rattle.kernel_types.specs.Step.{statuses}
@@ -33,9 +39,20 @@ is_final (Some answer) = true
 abbrev pub is_answer_to : ℕ → Entry → Bool
 is_answer_to actor entry = is_final (final_answer entry.answer) && is_of_actor actor entry.event
 
+-- whether the last entry has
+abbrev pub last_is_answer_to : ℕ → List Entry → Bool
+last_is_answer_to actor entries = elim (slice_get entries (length entries - 1)) as (λ _. Bool) [
+  | None ↦ false
+  | Some entry ↦ is_answer_to actor entry
+]
+
 -- at the beginning of a script, by the first start
 abbrev pub first_place : List Command → Place
 first_place script = record { actor = acting script 1; waits = false }
+
+-- the place of an actor that is in this start: at the beginning of its script, where it made no call by it yet
+abbrev pub anew : List Command → ℕ → Place → Place
+anew script start place = (if nat_lt place.actor.start start then record { actor = acting script start; waits = false } else place)
 
 abbrev pub pending : Bool → ℕ
 pending true = 1
@@ -54,13 +71,25 @@ abbrev pub Kept : List (List Command) → List Place → List Entry → Type 0
 Kept scripts places entries = (number : ℕ) (script : List Command) → slice_get scripts number ≡ Some script
     → (place : Place) × (slice_get places number ≡ Some place) × Fits number script entries place
 
+-- the actor ran by this start at some time of the history, or it is the first
+abbrev pub HasRun : State → List Entry → ℕ → ℕ → Type 0
+HasRun state entries number start = (start ≡ 1)
+    ⊎ ((before : List Entry) × (after : List Entry) × (entries ≡ before ++ after) × (status_at (state_after state before) number ≡ Some (status.Running start)))
+
+-- each actor ran by the start of its place
+abbrev pub AllRan : List Place → State → List Entry → Type 0
+AllRan places state entries = (number : ℕ) (place : Place) → slice_get places number ≡ Some place → HasRun state entries number place.actor.start
+
 -- a scene has at most 32 applications of 4 threads, and 8 clients
 abbrev pub most_actors : ℕ
 most_actors = 136
 
--- each actor has a place that fits, each script an actor, and the log is of a new kernel and no longer than a run
+-- each actor has a place that fits, each script an actor, and the log is of a new kernel, from the opening state of a scene, and no longer
+-- than a run
 pub record Sound (scripts : List (List Command)) (places : List Place) (log : Log) : Type 0 where
   pub kept : Kept scripts places log.journal.entries
+  pub ran : AllRan places log.origin.state log.journal.entries
+  pub opened : (scene : SceneValue) × (log.origin.state ≡ opening scene)
   pub many : length places ≡ length scripts
   pub actors : length (statuses (state_of log)) ≡ length scripts
   pub few : length scripts ≤ most_actors

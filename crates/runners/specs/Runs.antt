@@ -1,5 +1,5 @@
 -- What runs come to.
-use Rattle.std.specs.Prelude.{◌≡◌, ◌<◌, ◌+◌, ℕ, false, List, length, Option, Some, None, IsTrue, ⊤}
+use Rattle.std.specs.Prelude.{◌≡◌, ℕ, false, List, length, Option, Some, None, IsTrue, ⊤}
 use Rattle.std.specs.List.{list_all}
 use Rattle.kernel_values.specs.Origin.{Origin}
 use Rattle.kernel_values.specs.SceneLaw.{SceneValue, scripts_of}
@@ -15,10 +15,12 @@ use Rattle.kernel_types.specs.Facts.{is_at_end}
 use Rattle.kernel_types.specs.Opening.{opening}
 use Rattle.kernel_types.specs.Whole.{FollowsScripts, IsWhole, IsWholeHistory}
 use Rattle.kernel_types.specs.Step.{step}
-use Rattle.kernel_types.specs.Turns.{Run, ran, refused, run_turn, run_from, run_by, replay_of, serial_from, serial_turns, history_limit}
+use Rattle.kernel_types.specs.Turns.{Run, ran, refused, next_turn, run_turn, run_from, run_by, replay_of, serial_from, serial_turns, history_limit}
 use Rattle.kernel_log.specs.Logs.{Log, state_of}
 use Rattle.runners.specs.declared.serial_order.RunRefused.{RunRefused}
 use Rattle.runners.specs.declared.serial_order.RunRefused.TheVariants as run_refused
+use Rattle.runners.specs.declared.serial_order.SerialEnd.{SerialEnd}
+use Rattle.runners.specs.declared.serial_order.SerialEnd.TheVariants as serial_end
 use Rattle.runners.specs.declared.replays.ReplayRefused.{ReplayRefused}
 use Rattle.runners.specs.declared.replays.ReplayRefused.TheVariants as replay_refused
 use Rattle.runners.specs.declared.steps.Taken.{Taken}
@@ -67,7 +69,7 @@ Carries scene log = IsTrue (list_all is_honest scene.clients) → IsCarried (ope
 
 abbrev pub StoppedCarries : {K : Type 0} → SceneValue → RunRefused K → Type 0
 StoppedCarries scene (run_refused.TooLong log) = Carries scene log
-StoppedCarries scene run_refused.NoMemory = ⊤
+StoppedCarries scene other = ⊤
 
 -- the whole run of the scene in the serial order
 pub record IsWholeRun (scene : SceneValue) (turns : List Turn) (log : Log) : Type 0 where
@@ -80,8 +82,19 @@ pub record IsCutShort (scene : SceneValue) (log : Log) : Type 0 where
   pub full : length log.journal.entries ≡ history_limit
   pub unfinished : is_at_end (state_of log) ≡ false
 
+-- the serial run comes to a turn that is due and is not lawful; then some client is not honest
+pub record StandsStill (scene : SceneValue) : Type 0 where
+  pub run : Run
+  pub run_is : run_by scene (serial_turns scene) ≡ ran run
+  pub last : Option ℕ
+  pub due : Turn
+  pub due_is : next_turn run.state last ≡ Some due
+  pub unlawful : run_turn step (scripts_of scene) run due ≡ None
+  pub hostile : list_all is_honest scene.clients ≡ false
+
 abbrev pub IsStopped : {K : Type 0} → SceneValue → RunRefused K → Type 0
 IsStopped scene (run_refused.TooLong log) = IsCutShort scene log
+IsStopped scene run_refused.Unlawful = StandsStill scene
 IsStopped scene run_refused.NoMemory = ⊤
 
 -- the turns that the scene lists are lawful one after another, and whole at their end
@@ -93,20 +106,24 @@ abbrev pub IsReplayRefused : SceneValue → ReplayRefused → Type 0
 IsReplayRefused scene (replay_refused.Turn k) = replay_of scene ≡ refused k
 IsReplayRefused scene replay_refused.NoMemory = ⊤
 
--- the first actor that is asked for the next turn
-abbrev pub first_after : Option ℕ → ℕ
-first_after None = 0
-first_after (Some last) = last + 1
-
-abbrev pub IsBelow : ℕ → Option ℕ → Type 0
-IsBelow count None = ⊤
-IsBelow count (Some last) = last < count
-
 -- the run went on by its serial turns, to its end or to as many entries as a run may have
 pub record RanSerially (told next : Told) : Type 0 where
   pub origin_is : next.origin ≡ told.origin
   pub run_is : run_from step told.origin.scripts 0 (run_told told) (serial_from step told.origin.scripts history_limit None (run_told told)) ≡ ran (run_told next)
   pub full : is_at_end (state_told next) ≡ false → length next.history ≡ history_limit
+
+-- the run went on by its serial turns to one that is due and is not lawful
+pub record StoodStill (told next : Told) : Type 0 where
+  pub origin_is : next.origin ≡ told.origin
+  pub run_is : run_from step told.origin.scripts 0 (run_told told) (serial_from step told.origin.scripts history_limit None (run_told told)) ≡ ran (run_told next)
+  pub last : Option ℕ
+  pub due : Turn
+  pub due_is : next_turn (state_told next) last ≡ Some due
+  pub unlawful : run_turn step next.origin.scripts (run_told next) due ≡ None
+
+abbrev pub EndedSerially : Told → Told → SerialEnd → Type 0
+EndedSerially told next serial_end.Reached = RanSerially told next
+EndedSerially told next serial_end.Unlawful = StoodStill told next
 
 -- where a scene begins
 abbrev pub origin_of : SceneValue → Origin
@@ -131,4 +148,5 @@ pub record IsRunToLimit (origin : Origin) (log : Log) : Type 0 where
 
 abbrev pub IsUnfinished : {K : Type 0} → Origin → RunRefused K → Type 0
 IsUnfinished origin (run_refused.TooLong log) = IsRunToLimit origin log
+IsUnfinished origin run_refused.Unlawful = ⊥
 IsUnfinished origin run_refused.NoMemory = ⊤

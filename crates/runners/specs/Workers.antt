@@ -1,5 +1,5 @@
 -- What a worker does with a run that it shares.
-use Rattle.std.specs.Prelude.{◌≡◌, ◌≤◌, ◌<◌, ℕ, Bool, true, false, List, [], ◌∷◌, ◌++◌, length, Option, Some, None, slice_get, All, ⊤}
+use Rattle.std.specs.Prelude.{◌≡◌, ◌≤◌, ◌<◌, ℕ, Bool, true, false, List, [], ◌∷◌, ◌++◌, length, Some, slice_get, All, ⊤}
 use mathlib.Core.List.{IsPrefix}
 use Rattle.kernel_values.specs.declared.entry.Entry.{Entry}
 use Rattle.kernel_values.specs.declared.entry.Event.{Event}
@@ -24,6 +24,7 @@ use Rattle.runners.specs.declared.workers.Attended.{Attended}
 use Rattle.runners.specs.declared.workers.Attended.TheVariants as attended
 use Rattle.runners.specs.declared.workers.Worked.{Worked}
 use Rattle.runners.specs.declared.workers.Worked.TheVariants as worked
+use Rattle.runners.specs.Places.{is_answer_to}
 use Rattle.runners.specs.Runs.{Told, state_told}
 
 -- the pass is one of the turnstile's, with its number, and does not hold the value
@@ -69,7 +70,7 @@ pub record AddsOwn (actor : ℕ) (history longer : List Entry) : Type 0 where
 
 -- what one turn of the actor's worker makes of the run
 abbrev pub Served : ℕ → Told → Told → Round → Type 0
-Served actor told next (round.Stepped answered) = AddsOwn actor told.history next.history
+Served actor told next (round.Stepped answered) = (adds : AddsOwn actor told.history next.history) × (answered ≡ is_answer_to actor adds.entry)
 Served actor told next round.Whole = (next.history ≡ told.history) × (is_at_end (state_told told) ≡ true)
 Served actor told next round.TooLong = (next.history ≡ told.history) × (length told.history ≡ history_limit) × (is_at_end (state_told told) ≡ false)
 Served actor told next round.Sleeps = (next.history ≡ told.history) × HasNoTurn actor (state_told told)

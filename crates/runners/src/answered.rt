@@ -17,7 +17,8 @@ fn is_of_actor(event: &Event, actor: u32) -> bool
     }
 }
 
-fn is_answer_to(entry: &Entry, actor: u32) -> bool
+/// Whether the entry has the answer to a call of the actor.
+pub fn is_answer_to(entry: &Entry, actor: u32) -> bool
     ensures { result ≡ is_answer_to actor entry.now }
 {
     match &entry.answer {

@@ -1,8 +1,8 @@
 //! Where an actor stands at its script.
 
-ghost use Rattle.std.specs.Prelude.{◌≡◌, false, IfOk};
+ghost use Rattle.std.specs.Prelude.{◌≡◌, false, IfOk, OnOk, OnErr};
 ghost use Rattle.script_actor.specs.Actors.{acting};
-ghost use Rattle.runners.specs.Places.{after_answer};
+ghost use Rattle.runners.specs.Places.{after_answer, anew};
 
 use kernel_types::values::{Answer, NoMemory, Script};
 use script_actor::Actor;
@@ -25,6 +25,17 @@ impl Place {
             actor: Actor::new(alloc, script, start)?,
             waits: false,
         })
+    }
+
+    /// An actor that was started again begins its script anew.
+    pub fn start_anew(&mut self, alloc: Global, script: &Script, start: u32) -> Result<(), NoMemory>
+        ensures anew { OnOk result (self.new ≡ anew script.now start self.old) }
+        ensures err { OnErr result (self.new ≡ self.old) }
+    {
+        if self.actor.start() < start {
+            *self = Place::new(alloc, script, start)?;
+        }
+        Ok(())
     }
 
     /// After the step of its call, or of the end of its wait.

@@ -20,8 +20,7 @@ pub enum ReplayRefused {
     /// The turn with this number, counted from 0, is not lawful after those before it; or it is the length
     /// of the list, and the run is not whole after it.
     Turn(u64),
-    /// Memory was wanted; or an actor's place at its script did not fit its status, which was never seen, and is not proved
-    /// impossible.
+    /// Memory was wanted.
     NoMemory,
 }
 

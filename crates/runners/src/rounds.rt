@@ -18,13 +18,13 @@ pub enum Round {
     Whole,
     /// The run is not whole, and has as many entries as a run may have.
     TooLong,
-    /// A step was made: the actor's, the device's, or Idle. Whether an answer to a call of the actor came by it.
+    /// A step was made: the actor's, the device's, or Idle; and whether an answer to a call of the actor came by it.
     Stepped { answered: bool },
     /// The actor is to make a call by this start.
     Asks { start: u32 },
     /// There is nothing to do.
     Sleeps,
-    /// Memory was wanted, or the turn was not lawful: see `RunRefused::NoMemory`.
+    /// Memory was wanted, or the turn was not lawful, as `RunRefused::Unlawful` says.
     NoMemory,
 }
 
@@ -61,7 +61,7 @@ fn turn_of<K: IpcKernel + Drop>(shared: &Shared<K>, actor: u32) -> Option<Turn>
 }
 
 // Takes the turn.
-#[tactic(auto, using(crate::proofs::Serving::took_own), unfolding(kernel_types::specs::Turns::history_limit))]
+#[tactic(auto, unfolding(kernel_types::specs::Turns::history_limit))]
 fn take<K: IpcKernel + Drop>(shared: &mut Shared<K>, actor: u32, turn: Turn) -> Round
     requires room { length shared.old.history < HISTORY_LIMIT }
     requires turn { IsTurnOf actor turn }
@@ -73,9 +73,9 @@ fn take<K: IpcKernel + Drop>(shared: &mut Shared<K>, actor: u32, turn: Turn) -> 
     };
     match taken {
         Taken::Stepped => Round::Stepped {
-            answered: matches!(turn, Turn::Actor(_)) && !shared.waits(actor),
+            answered: shared.last_answers(actor),
         },
-        // As in the serial order, by the same law and under the same premise.
+        // As in the serial order: a client's call that writes memory or a ring by itself.
         Taken::Unlawful => Round::NoMemory,
     }
 }

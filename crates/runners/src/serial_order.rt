@@ -6,7 +6,8 @@ ghost use Rattle.kernel_types.specs.Opening.{opening};
 ghost use Rattle.kernel_types.specs.Facts.{is_at_end};
 ghost use Rattle.kernel_types.specs.Step.{statuses};
 ghost use Rattle.kernel_types.specs.Turns.{takes_turn, next_turn, last_after, serial_turns};
-ghost use Rattle.runners.specs.Runs.{state_told, first_after, IsBelow, RanSerially, IsWholeRun, IsStopped, Carries, StoppedCarries};
+ghost use Rattle.run_laws.specs.Order.{first_after, IsBelow};
+ghost use Rattle.runners.specs.Runs.{state_told, EndedSerially, IsWholeRun, IsStopped, Carries, StoppedCarries};
 
 use crate::scripts::is_lawful;
 use crate::shared::Shared;
@@ -25,10 +26,10 @@ pub const HISTORY_LIMIT: u64 = 4_194_304;
 pub enum RunRefused<K: IpcKernel + Drop> {
     /// It is not whole after 4,194,304 entries. The kernel comes back with them.
     TooLong(Logged<K>),
-    /// Memory was wanted; or the turn that was due was not lawful. The latter does not come where clients write memory and rings
-    /// through the driver alone, by a law of `run_laws`, a crate that stands above this one; a client's call that writes them
-    /// itself is not lawful, as no kernel has a body for it yet. Or an actor's place at its script did not fit its status, which
-    /// was never seen, and is not proved impossible.
+    /// The turn that was due is not lawful. This comes only where some client writes memory or a ring by a call of its own: no
+    /// kernel has a body for such a call yet. By threads it does not come.
+    Unlawful,
+    /// Memory was wanted. By threads this comes also where a turn that was due is not lawful.
     NoMemory,
 }
 
@@ -102,24 +103,31 @@ fn last_after(last: Option<u32>, turn: Turn) -> Option<u32>
     }
 }
 
+/// Where the serial turns ended.
+#[derive(Clone, Copy, PartialEq, Eq, Debug)]
+pub enum SerialEnd {
+    /// The run is whole, or has as many entries as a run may have.
+    Reached,
+    /// The turn that is due is not lawful.
+    Unlawful,
+}
+
 // Takes the serial turns, to the end of the run or to the limit.
-fn run_serially<K: IpcKernel + Drop>(shared: &mut Shared<K>) -> Result<(), NoMemory>
+fn run_serially<K: IpcKernel + Drop>(shared: &mut Shared<K>) -> Result<SerialEnd, NoMemory>
     requires { shared.old.history ≡ [] }
-    ensures { OnOk result (RanSerially shared.old shared.new) }
+    ensures { IfOk result (λ end. EndedSerially shared.old shared.new end) }
 {
     let mut last = None;
     for _made in 0..HISTORY_LIMIT {
         let Some(turn) = next_turn(shared, last) else {
-            return Ok(());
+            return Ok(SerialEnd::Reached);
         };
         match shared.turn(turn)? {
             Taken::Stepped => last = last_after(last, turn),
-            // Where clients write memory and rings through the driver alone, a turn of the serial order is
-            // lawful, by a law of runs that stands above this crate; the answer is the free one.
-            Taken::Unlawful => return Err(NoMemory),
+            Taken::Unlawful => return Ok(SerialEnd::Unlawful),
         }
     }
-    Ok(())
+    Ok(SerialEnd::Reached)
 }
 
 /// Runs the scene in the serial order on a new kernel that stands for its opening state: among the
@@ -140,10 +148,17 @@ pub fn serial<K: IpcKernel + Drop>(
     frames_are_carried_in_order();
     is_lawful(scene);
     let mut shared = Shared::new(alloc, kernel, scene)?;
-    let Ok(()) = run_serially(&mut shared) else {
+    let Ok(end) = run_serially(&mut shared) else {
         drop(shared);
         return Err(RunRefused::NoMemory);
     };
+    match end {
+        SerialEnd::Reached => {}
+        SerialEnd::Unlawful => {
+            drop(shared);
+            return Err(RunRefused::Unlawful);
+        }
+    }
     shared.legal();
     if shared.is_over() {
         Ok(shared.into_logged())

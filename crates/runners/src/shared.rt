@@ -9,10 +9,10 @@ ghost use Rattle.kernel_types.specs.Step.{statuses, movable, device_has_work, id
 ghost use Rattle.kernel_types.specs.Whole.{FollowsScripts};
 ghost use Rattle.kernel_types.specs.Turns.{history_limit, takes_turn};
 ghost use Rattle.kernel_log.specs.Logs.{Log};
-ghost use Rattle.runners.specs.Places.{is_answer_to, most_actors};
+ghost use Rattle.runners.specs.Places.{is_answer_to, last_is_answer_to, most_actors};
 ghost use Rattle.runners.specs.Runs.{Told, TookTurn, state_told, start_running};
 
-use crate::answered::answered;
+use crate::answered::{answered, is_answer_to};
 use crate::bell::Bell;
 use crate::place::Place;
 use crate::scripts::{places_of, scripts_of};
@@ -145,10 +145,12 @@ impl<K: IpcKernel + Drop> Shared<K> {
         }
     }
 
-    /// Whether the actor's last call has no answer yet.
-    pub fn waits(&self, actor: u32) -> bool {
-        match self.places.get(actor as usize) {
-            Some(place) => place.waits,
+    /// Whether the last entry has the answer to a call of the actor.
+    pub fn last_answers(&self, actor: u32) -> bool
+        ensures { result ≡ last_is_answer_to actor self.now.history }
+    {
+        match self.logged.journal().entries().last() {
+            Some(entry) => is_answer_to(entry, actor),
             None => false,
         }
     }
@@ -178,8 +180,7 @@ impl<K: IpcKernel + Drop> Shared<K> {
     }
 
     /// Takes one turn: the actor's next event, a step of the device, or Idle. Refused for want of memory,
-    /// or where the actor's place at its script does not fit its status (never seen, and not proved
-    /// impossible), all stands as before.
+    /// all stands as before.
     pub fn turn(&mut self, turn: Turn) -> Result<Taken, NoMemory>
         requires { length self.old.history < history_limit }
         ensures origin { self.new.origin ≡ self.old.origin }
@@ -217,36 +218,12 @@ impl<K: IpcKernel + Drop> Shared<K> {
         ensures taken { IfOk result (λ taken. TookTurn (Turn.Actor actor) self.old self.new taken) }
         ensures err { OnErr result (self.new.history ≡ self.old.history) }
     {
-        self.start_anew(actor, start)?;
-        self.call(actor, start)
-    }
-
-    // An actor that was started again begins its script anew.
-    fn start_anew(&mut self, actor: u32, start: u32) -> Result<(), NoMemory>
-        ensures { self.new ≡ self.old }
-    {
+        self.logged.legal();
         let Some(script) = self.scripts.get(actor as usize) else {
-            return Ok(());
+            unreachable!();
         };
-        if self.places[actor as usize].actor.start() < start {
-            self.places[actor as usize] = Place::new(self.alloc, script, start)?;
-        }
-        Ok(())
-    }
-
-    fn call(&mut self, actor: u32, start: u32) -> Result<Taken, NoMemory>
-        requires room { length self.old.history < history_limit }
-        requires runs { status_at (state_told self.old) actor ≡ Some (ActorStatus.Running start) }
-        ensures origin { self.new.origin ≡ self.old.origin }
-        ensures taken { IfOk result (λ taken. TookTurn (Turn.Actor actor) self.old self.new taken) }
-        ensures err { OnErr result (self.new.history ≡ self.old.history) }
-    {
         let place = &mut self.places[actor as usize];
-        // The places keep step with what the kernel says of the actors, so this does not come. That
-        // it does not is not proved; the answer is the free one.
-        if place.waits || place.actor.start() != start {
-            return Err(NoMemory);
-        }
+        place.start_anew(self.alloc, script, start)?;
         let Some(call) = place.actor.next()? else {
             return Ok(Taken::Unlawful);
         };
@@ -265,11 +242,8 @@ impl<K: IpcKernel + Drop> Shared<K> {
         ensures taken { IfOk result (λ taken. TookTurn (Turn.Actor actor) self.old self.new taken) }
         ensures err { OnErr result (self.new.history ≡ self.old.history) }
     {
+        self.logged.legal();
         let place = &mut self.places[actor as usize];
-        // As for a call: not known to be impossible, and never seen.
-        if !place.waits || place.actor.start() != start {
-            return Err(NoMemory);
-        }
         let event = Event::Resume {
             actor: ActorId(actor),
             start,

@@ -162,8 +162,8 @@ pub fn attend<R: Wait, K: IpcKernel + Drop, H: Hook>(
 
 /// Makes the calls of one actor, by all of its starts, until the run has ended. In between it takes the
 /// device's steps and Idle where they are lawful, and sleeps where there is nothing to do. Where memory
-/// was wanted, by it or by another who shares the run, or a turn was not lawful (see
-/// `RunRefused::NoMemory`), it ends too. That it returns is not promised.
+/// was wanted, by it or by another who shares the run, or a turn was not lawful (as
+/// `RunRefused::Unlawful` says), it ends too. That it returns is not promised.
 pub fn work<R: Wait, K: IpcKernel + Drop, H: Hook>(
     rt: &R,
     turnstile: &Turnstile<Shared<K>>,

@@ -1,7 +1,6 @@
 -- Lines before the turns: after each of them, where it is no fault, there is no turn yet, or what there was.
-use Rattle.std.proofs.Common.{◌≡◌, ℕ, ◌*◌, ◌≤◌, ◌&&◌, false, not, cond, List, [], ◌∷◌, ◌++◌, length, Option, Some, Result, Ok, Err, refl, arith}
+use Rattle.std.proofs.Common.{◌≡◌, ℕ, ◌≤◌, cond, List, [], ◌∷◌, ◌++◌, length, Result, Ok, Err, refl, arith}
 use Rattle.std.specs.Prelude.{IfOk, nat_lt}
-use Rattle.kernel_values.specs.Commands.{has_lawful_registers, payload_of}
 use Rattle.kernel_values.specs.Words.{is_name}
 use Rattle.kernel_values.specs.declared.scene.Manifest.{Manifest}
 use Rattle.kernel_values.specs.declared.script.Command.{Command}
@@ -27,7 +26,7 @@ use Rattle.script_lines.specs.Gives.{◌>>=◌}
 use Rattle.script_lines.specs.Texts.{after_two_words}
 use Rattle.script_lines.specs.Calls.{command_line}
 use Rattle.script_lines.specs.ClientCalls.{client_command_line}
-use Rattle.scene_lines.specs.Reading.{after_command, with_command, app_line, extended, repeat_line, call_act, with_client_command, client_line, client_repeat_line, client_call_act, no_more, next_thread, thread_act, times_in, begun, repeat_act, repeated, after_repeat, closed, client_closed, end_act, is_in_repeat, apps_with, clients_with, manifest_act, is_named, with_ports, most_apps, new_app, with_app, described_app, named_app, app_act, most_clients, new_client, with_client, client_name, named_client, client_act, may_be_sized, queue_in, queues_act, turns_act, part_act, script_act, word_act}
+use Rattle.scene_lines.specs.Reading.{after_command, with_command, app_line, extended, repeat_line, call_act, with_client_command, client_line, client_repeat_line, client_call_act, no_more, next_thread, thread_act, times_in, begun, repeat_act, repeated, after_repeat, closed, client_closed, end_act, is_in_repeat, apps_with, clients_with, manifest_act, is_named, with_ports, most_apps, new_app, with_app, described_app, named_app, app_act, most_clients, new_client, with_client, client_name, named_client, client_act, queues_act, turns_act, part_act, script_act, word_act}
 use Rattle.scene_reader.specs.Whole.{turns_in}
 use Rattle.scene_laws.proofs.Results.{after, after_that, either}
 

@@ -5,7 +5,6 @@ use Rattle.std.specs.List.{list_all}
 use Rattle.std.proofs.lemmas.List.{length-append}
 use Rattle.kernel_values.specs.SceneLaw.{SceneValue}
 use Rattle.kernel_values.specs.declared.scene.Turn.{Turn}
-use Rattle.script_lines.specs.declared.fault.SceneKind.{SceneKind}
 use Rattle.script_lines.specs.declared.fault.SceneKind.TheVariants.{BadByte, NoHeader}
 use Rattle.script_lines.specs.declared.fault.SceneFault.{SceneFault}
 use Rattle.scene_lines.specs.declared.reading.Place.{Place}

@@ -1,6 +1,8 @@
 //! The commands that take no threads: from the words and the input to what is written and the status.
 
-ghost use Rattle.std.specs.Prelude.{◌≡◌, ◌≢◌, ◌+◌, ◌≤◌, ◌⊎◌, max, Some, None, Ok, map, length, string_bytes, IfOk, IfSome};
+ghost use Rattle.std.specs.Prelude.{◌≡◌, ◌≢◌, ◌+◌, ◌≤◌, ◌⊎◌, IsTrue, max, Some, None, Ok, map, length, string_bytes, IfOk, IfSome};
+ghost use Rattle.std.specs.List.{list_all};
+ghost use Rattle.kernel_types.specs.Carried.{is_honest};
 ghost use Rattle.std.specs.Io.KnownBytes.{Appends, Keeps, IsAtEnd};
 ghost use Rattle.outside_io.specs.Faults.{Rose};
 ghost use Rattle.outside_io.specs.Reading.{TakesMore};
@@ -21,7 +23,7 @@ use outside_io::{INPUT_LIMIT, READ_SIZE, ReadRefused, Sink, Source, read_all};
 use program_kernel::kernel_of;
 use report_text::Form;
 use runners::{ReplayRefused, RunRefused, replay, serial};
-use scene_laws::turns_take_bytes;
+use scene_laws::{scenes_have_honest_clients, turns_take_bytes};
 use scene_reader::{SceneRefused, read_scene};
 use std::alloc::Global;
 
@@ -96,6 +98,7 @@ fn answer<K: Sink>(alloc: Global, plan: Plan, input: &[u8], sink: &mut K) -> Sta
     match read_scene(alloc, input) {
         Ok(scene) => {
             turns_take_bytes();
+            scenes_have_honest_clients();
             run(alloc, plan, &scene, sink)
         }
         Err(SceneRefused::Fault(fault)) => tell_fault(alloc, &fault, sink),
@@ -105,6 +108,7 @@ fn answer<K: Sink>(alloc: Global, plan: Plan, input: &[u8], sink: &mut K) -> Sta
 
 fn run<K: Sink>(alloc: Global, plan: Plan, scene: &Scene, sink: &mut K) -> Status
     requires turns { length scene.now.turns ≤ history_limit }
+    requires honest { IsTrue (list_all is_honest scene.now.clients) }
     ensures tells { Tells (due_of_scene plan (Ok scene.now)) (K.written sink.old) (K.written sink.new) (K.faults sink.old) (K.faults sink.new) result }
     ensures done { result ≡ Status.Done → IsRunOfPlan plan.order scene.now }
     ensures reported { result ≡ Status.Done → ReportsRun plan.order plan.form scene.now (K.written sink.old) (K.written sink.new) }
@@ -129,6 +133,7 @@ fn run_serially<C: IpcKernel + Drop, K: Sink>(
 ) -> Status
     requires state { C.state kernel ≡ opening scene.now }
     requires made { C.made kernel ≡ 0 }
+    requires honest { IsTrue (list_all is_honest scene.now.clients) }
     ensures tells { Tells (due_of_run scene.now form (outturn_of Order.Serial scene.now)) (K.written sink.old) (K.written sink.new) (K.faults sink.old) (K.faults sink.new) result }
     ensures done { result ≡ Status.Done → IsRunOfPlan Order.Serial scene.now }
     ensures reported { result ≡ Status.Done → ReportsRun Order.Serial form scene.now (K.written sink.old) (K.written sink.new) }
@@ -144,6 +149,7 @@ fn run_serially<C: IpcKernel + Drop, K: Sink>(
             drop(cut);
             tell_too_long(sink)
         }
+        Err(RunRefused::Unlawful) => unreachable!(),
         Err(RunRefused::NoMemory) => Status::NoMemory,
     }
 }

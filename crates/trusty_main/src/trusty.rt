@@ -188,6 +188,7 @@ fn run_scene<R: Threads + Wait + Sync, K: Sink, H: Hook + Sync>(
             drop(cut);
             tell_too_long(sink)
         }
+        Err(RunRefused::Unlawful) => unreachable!(),
         Err(RunRefused::NoMemory) => Status::NoMemory,
     }
 }

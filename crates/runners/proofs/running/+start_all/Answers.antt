@@ -1,4 +1,4 @@
-use Rattle.std.proofs.Common.{◌≡◌, ◌++◌, [], ◌∷◌, List, Option, Some, ap, sym, subst, ◌∙◌, rules, option_to_list}
+use Rattle.std.proofs.Common.{◌≡◌, ◌++◌, List, Option, Some, ap, sym, subst, ◌∙◌, option_to_list}
 use Rattle.std.specs.Prelude.{All, IfSome}
 use Rattle.std.proofs.lemmas.List.Elements.{All-pop, All-push}
 use Rattle.turnstile.specs.declared.lock.Turnstile.{Turnstile}

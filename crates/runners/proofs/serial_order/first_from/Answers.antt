@@ -1,7 +1,7 @@
 use Rattle.std.proofs.Common.{◌≡◌, true, false, ◌∙◌, sym, rules}
 use Rattle.kernel_types.specs.Turns.{takes_turn}
 use Rattle.runners.specs.Runs.{state_told}
-use Rattle.runners.proofs.Numbers.{number_found, number_passed, numbers_end}
+use Rattle.run_laws.proofs.Numbers.{number_found, number_passed, numbers_end}
 use Rattle.runners.proofs.serial_order.first_from.Goals as goal
 
 pub returns-then-takes_turn-clause-first : goal.returns-then-takes_turn-clause-first

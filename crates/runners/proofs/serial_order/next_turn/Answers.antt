@@ -1,5 +1,5 @@
 use Rattle.std.proofs.Common.{sym, ◌∙◌}
-use Rattle.runners.proofs.Ordering.{Asks, asks, turn_after, turn_up_to, turn_of_none, kernel_device, kernel_idle, kernel_none, whole_by}
+use Rattle.run_laws.proofs.Ordering.{Asks, asks, turn_after, turn_up_to, turn_of_none, kernel_device, kernel_idle, kernel_none, whole_by}
 use Rattle.runners.specs.Runs.{state_told}
 use Rattle.runners.proofs.serial_order.next_turn.Goals as goal
 

@@ -1,7 +1,8 @@
 use Rattle.std.proofs.Common.{◌≡◌, ◌-◌, length}
 use Rattle.kernel_types.specs.Step.{step}
 use Rattle.kernel_types.specs.Turns.{run_from, serial_from, history_limit}
-use Rattle.runners.specs.Runs.{run_told, IsBelow}
+use Rattle.run_laws.specs.Order.{IsBelow}
+use Rattle.runners.specs.Runs.{run_told}
 use Rattle.runners.proofs.serial_order.run_serially.Given as goal
 
 -- what is left to take comes to what the whole would

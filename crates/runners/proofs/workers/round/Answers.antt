@@ -1,10 +1,10 @@
-use Rattle.std.proofs.Common.{◌≡◌, ◌++◌, [], ◌∷◌, List, true, false, ap, sym, ◌∙◌, arith}
+use Rattle.std.proofs.Common.{◌++◌, [], ◌∷◌, List, ap, sym, ◌∙◌, arith}
 use Rattle.kernel_values.specs.declared.entry.Entry.{Entry}
 use Rattle.kernel_types.specs.Turns.{history_limit}
 use Rattle.turnstile.specs.declared.view.View.{View}
 use Rattle.turnstile.specs.Passes.{view}
-use Rattle.runners.specs.Workers.{AddsOwn, WentOn, is_step}
-use Rattle.runners.proofs.Working.{Keeps, step_adds_own, no_step_stays, step_ends_nothing, went_more, went_same, ends_same}
+use Rattle.runners.specs.Workers.{AddsOwn, WentOn}
+use Rattle.runners.proofs.Working.{step_adds_own, no_step_stays, step_ends_nothing, went_more, went_same, ends_same}
 use Rattle.runners.proofs.workers.round.Goals as goal
 
 pub leave_with-requires-clause-history : goal.leave_with-requires-clause-history

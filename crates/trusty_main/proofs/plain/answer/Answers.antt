@@ -8,9 +8,12 @@ use Rattle.trusty_main.specs.declared.status.Status.TheVariants as status
 use Rattle.trusty_main.proofs.Reporting.{tells_due, read_is_due}
 use Rattle.trusty_main.proofs.plain.answer.Goals as goal
 
-pub run-requires : goal.run-requires
+pub run-requires-clause-honest : goal.run-requires-clause-honest
+run-requires-clause-honest g c = c.scenes_have_honest_clients.ensures c.args.input.now c.in-Ok.scene c.in-Ok.ensures
+
+pub run-requires-clause-turns : goal.run-requires-clause-turns
 unfolding history_limit
-run-requires g c = omega (arith, c.turns_take_bytes.ensures c.args.input.now c.in-Ok.scene c.in-Ok.ensures, c.requires)
+run-requires-clause-turns g c = omega (arith, c.turns_take_bytes.ensures c.args.input.now c.in-Ok.scene c.in-Ok.ensures, c.requires)
 
 pub returns-in-Ok-clause-tells : goal.returns-in-Ok-clause-tells
 returns-in-Ok-clause-tells g c = tells_due (read_is_due c.args.plan c.args.input.now _ c.in-Ok.ensures) c.run.ensures.tells

@@ -1,5 +1,5 @@
 -- No step adds an actor or takes one away.
-use Rattle.std.proofs.Common.{◌≡◌, List, length, Option, Some, None, refl, ap, sym, ◌∙◌}
+use Rattle.std.proofs.Common.{◌≡◌, length, Option, Some, None, refl, ap, sym, ◌∙◌}
 use Rattle.kernel_values.specs.declared.entry.Event.{Event}
 use Rattle.kernel_values.specs.declared.state.State.{State}
 use Rattle.kernel_types.specs.History.{next_state, state_or}

@@ -1,5 +1,5 @@
 -- The next turn of the serial order, by two walks over the actors; and that without one the run is whole.
-use Rattle.std.proofs.Common.{◌≡◌, ℕ, zero, suc, ◌+◌, ◌-◌, ◌<◌, ◌≤◌, Bool, true, false, cond, List, [], ◌∷◌, ◌++◌, length, map, Option, Some, None, refl, ap, sym, ◌∙◌, subst, arith, append-nil, zero-add, inl, inr}
+use Rattle.std.proofs.Common.{◌≡◌, ℕ, suc, ◌+◌, ◌-◌, ◌<◌, ◌≤◌, Bool, true, false, cond, List, [], ◌∷◌, ◌++◌, length, Option, Some, None, refl, ap, sym, ◌∙◌, subst, arith, append-nil, zero-add, inl, inr}
 use Rattle.std.proofs.lemmas.Bool.{cases_lt}
 use Rattle.std.specs.Prelude.{slice_get, not, ◌&&◌, ◌||◌}
 use Rattle.std.specs.List.{find, filter, range_with_len, list_any, list_all}
@@ -25,8 +25,8 @@ use Rattle.kernel_types.specs.Step.{statuses, has_begun_and_goes_on, is_running,
 use Rattle.kernel_types.specs.Turns.{takes_turn, is_later, actors_in_turn, kernel_turn, turn_or_kernel, next_turn}
 use Rattle.kernel_types.specs.Waits.{thread_may_move, activity_may_move, thread_movable, may_move}
 use Rattle.kernel_types.proofs.Actors.{client_moves, status_of_client, status_of_thread, thread_is_thread, thread_moves}
-use Rattle.runners.specs.Runs.{first_after, IsBelow}
-use Rattle.runners.proofs.Numbers.{range_split, filter_all, filter_none, passed_all}
+use Rattle.run_laws.specs.Order.{first_after, IsBelow}
+use Rattle.run_laws.proofs.Numbers.{range_split, filter_all, filter_none, passed_all}
 
 -- the actors after the last one, and those up to it
 
