@@ -7,8 +7,10 @@ use Rattle.kernel_values.specs.declared.state.Application.{Application}
 use Rattle.kernel_values.specs.declared.state.TableEntry.{TableEntry}
 use Rattle.app_life.specs.declared.life.Life.{Life}
 use Rattle.app_life.specs.declared.threads.ThreadLife.{ThreadLife}
-use Rattle.app_life.specs.Lists.{changed_at, set_if}
-use Rattle.app_life.specs.Lives.{Lives, opening_app, may_start, started_app, started_thread, started_as, started_if_may, ended_app, table_of, app_runs, reported, app_restarts, last_of, app_table, uuid_of}
+use Rattle.kernel_types.specs.Objects.{map_at, set_if}
+use Rattle.app_life.specs.Lives.{Lives, may_start, started_thread, started_as, started_if_may, table_of, app_runs, reported, app_restarts, last_of, app_table, uuid_of}
+use Rattle.kernel_types.specs.Applications.{started_app, ended_app}
+use Rattle.kernel_types.specs.Opening.{opening_app}
 use Rattle.app_life.specs.Inside.{application, applications, manifest_of, opening_life, begun, stopped, next_start, life_table, is_left, reported_life}
 use Rattle.app_life.specs.Lending.{table_set, with_table}
 use Rattle.app_life.proofs.Changes.{later}
@@ -45,20 +47,20 @@ opening-applications [] = refl
 opening-applications (app ∷ apps) = ap (λ rest. opening_app app ∷ rest) (opening-applications apps)
 
 module _ (f : Life → Life) (g : Application → Application) (same : (m : Manifest) (l : Life) → application m (f l) ≡ g (application m l)) where
-  changed-applications : (ms : List Manifest) (ls : List Life) (i : ℕ) → applications ms (changed_at f ls i) ≡ changed_at g (applications ms ls) i
+  changed-applications : (ms : List Manifest) (ls : List Life) (i : ℕ) → applications ms (map_at f ls i) ≡ map_at g (applications ms ls) i
   changed-applications [] ls i = refl
   changed-applications (m ∷ ms) [] i = refl
   changed-applications (m ∷ ms) (l ∷ ls) zero = ap (λ app. app ∷ applications ms ls) (same m l)
   changed-applications (m ∷ ms) (l ∷ ls) (suc i) =
       rw (later f l ls i, later g (application m l) (applications ms ls) i) (ap (λ rest. application m l ∷ rest) (changed-applications ms ls i))
 
-pub begun-applications : (ms : List Manifest) (ls : List Life) (i : ℕ) → applications ms (changed_at begun ls i) ≡ changed_at started_app (applications ms ls) i
+pub begun-applications : (ms : List Manifest) (ls : List Life) (i : ℕ) → applications ms (map_at begun ls i) ≡ map_at started_app (applications ms ls) i
 begun-applications ms ls i = changed-applications begun started_app (λ m l. refl) ms ls i
 
-pub stopped-applications : (ms : List Manifest) (ls : List Life) (i : ℕ) → applications ms (changed_at stopped ls i) ≡ changed_at ended_app (applications ms ls) i
+pub stopped-applications : (ms : List Manifest) (ls : List Life) (i : ℕ) → applications ms (map_at stopped ls i) ≡ map_at ended_app (applications ms ls) i
 stopped-applications ms ls i = changed-applications stopped ended_app (λ m l. refl) ms ls i
 
-pub reported-applications : (handle : ℕ) (ms : List Manifest) (ls : List Life) (i : ℕ) → applications ms (changed_at (reported_life handle) ls i) ≡ changed_at (reported handle) (applications ms ls) i
+pub reported-applications : (handle : ℕ) (ms : List Manifest) (ls : List Life) (i : ℕ) → applications ms (map_at (reported_life handle) ls i) ≡ map_at (reported handle) (applications ms ls) i
 reported-applications handle ms ls i = changed-applications (reported_life handle) (reported handle) (λ m l. refl) ms ls i
 
 -- what is asked of an application is asked of its life, or of its manifest
@@ -149,16 +151,16 @@ Some-inj : {a b : ℕ} → Some a ≡ Some b → a ≡ b
 Some-inj h = cc
 
 started_like : (app start : ℕ) (lives : Lives) (o : Option Application) → option_and_then next_start (option_map life_of o) ≡ Some start
-    → record { apps = changed_at started_app lives.apps app; threads = map (started_thread app start) lives.threads } ≡ (if may_start o then started_as app o lives else lives)
+    → record { apps = map_at started_app lives.apps app; threads = map (started_thread app start) lives.threads } ≡ (if may_start o then started_as app o lives else lives)
 started_like app start lives None h = cc
 started_like app start lives (Some a) h =
-    let made = λ (n : ℕ). let r : Lives = record { apps = changed_at started_app lives.apps app; threads = map (started_thread app n) lives.threads } in r in
+    let made = λ (n : ℕ). let r : Lives = record { apps = map_at started_app lives.apps app; threads = map (started_thread app n) lives.threads } in r in
     let P : Bool → Type 0 = λ b. (if b then Some (a.starts + 1) else None) ≡ Some start → made start ≡ (if b then made (a.starts + 1) else lives) in
     let cases : (b : Bool) → P b = λ b. elim b as P [ true ↦ λ k. ap made (sym (Some-inj k)) | false ↦ λ k. cc ] in
     cases (not a.running && nat_lt a.starts 4) h
 
 pub started_lives : (ms : List Manifest) (ls : List Life) (threads : List ThreadLife) (app start : ℕ) → length ms ≡ length ls → option_and_then next_start (slice_get ls app) ≡ Some start
-    → record { apps = applications ms (changed_at begun ls app); threads = map (started_thread app start) threads } ≡ started_if_may app (record { apps = applications ms ls; threads = threads })
+    → record { apps = applications ms (map_at begun ls app); threads = map (started_thread app start) threads } ≡ started_if_may app (record { apps = applications ms ls; threads = threads })
 started_lives ms ls threads app start e h =
     rw begun-applications (started_like app start (record { apps = applications ms ls; threads = threads }) (slice_get (applications ms ls) app) (rw (life_at ms ls app e) h))
 
@@ -192,7 +194,7 @@ abbrev pub life_table_set : List TableEntry → Life → Life
 life_table_set table life = record life { table = table }
 
 tabled-applications : (table : List TableEntry) (ms : List Manifest) (ls : List Life) (i : ℕ) (l : Life) → slice_get ls i ≡ Some l
-    → applications ms (slice_set ls i (life_table_set table l)) ≡ changed_at (table_set table) (applications ms ls) i
+    → applications ms (slice_set ls i (life_table_set table l)) ≡ map_at (table_set table) (applications ms ls) i
 tabled-applications table ms ls i l h =
     ap (λ o. applications ms (set_if ls i (option_map (life_table_set table) o))) (sym h) ∙ changed-applications (life_table_set table) (table_set table) (λ m x. refl) ms ls i
 

@@ -17,7 +17,9 @@ use Rattle.kernel_values.specs.declared.scene.StartPort.{StartPort}
 use Rattle.kernel_values.specs.declared.state.Application.{Application}
 use Rattle.app_life.specs.declared.life.Life.{Life}
 use Rattle.app_life.specs.declared.registry.StartPlace.{StartPlace}
-use Rattle.app_life.specs.StartPorts.{is_start_port, has_start_port, serving, start_port_of, flags_of, serving_flags}
+use Rattle.app_life.specs.StartPorts.{serving, flags_of, serving_flags}
+use Rattle.kernel_types.specs.Applications.{is_start_port, has_start_port}
+use Rattle.kernel_types.specs.Connects.{start_flags}
 use Rattle.app_life.specs.Inside.{application, applications}
 use Rattle.app_life.specs.Places.{place_of, place_if, place_in, place_from, place_at, IsIndex}
 
@@ -131,8 +133,8 @@ module _ (path : List ℕ) where
   served ms ls e = numbered 0 ms ls e ∙ sym (position_from-zero (has_start_port path) (applications ms ls))
 
   flags_like : (k : ℕ) (m : Manifest) (l : Life) (o : Option StartPort) → find (is_start_port path) m.ports ≡ o → (rest : Option StartPlace) (others : Option Application)
-      → option_map place_flags rest ≡ option_map flags_of (option_and_then (start_port_of path) others)
-      → option_map place_flags (option_or (option_map (place_of k) o) rest) ≡ option_map flags_of (option_and_then (start_port_of path) (cond (is_some o) (Some (application m l)) others))
+      → option_map place_flags rest ≡ option_map flags_of (option_and_then (start_flags path) others)
+      → option_map place_flags (option_or (option_map (place_of k) o) rest) ≡ option_map flags_of (option_and_then (start_flags path) (cond (is_some o) (Some (application m l)) others))
   flags_like k m l None is rest others h = h
   flags_like k m l (Some port) is rest others h = rw is refl
 

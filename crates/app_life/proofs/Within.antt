@@ -9,7 +9,7 @@ use Rattle.kernel_values.specs.declared.scene.App.{App}
 use Rattle.kernel_values.specs.declared.scene.Manifest.{Manifest}
 use Rattle.kernel_values.specs.declared.script.Command.{Command}
 use Rattle.app_life.specs.declared.threads.ThreadLife.{ThreadLife}
-use Rattle.app_life.specs.Lists.{changed_at}
+use Rattle.kernel_types.specs.Objects.{map_at}
 use Rattle.app_life.specs.Lives.{started_thread, ended_thread, ended_thread_of, waiting_thread, opening_thread, opening_threads}
 use Rattle.app_life.specs.Inside.{is_within, manifest_of, opening_life, IsLives}
 use Rattle.app_life.proofs.Changes.{later}
@@ -19,7 +19,7 @@ module _ (n : ℕ) (f : ThreadLife → ThreadLife) (keeps : (t : ThreadLife) →
   within-map [] = refl
   within-map (t ∷ ts) = rw (keeps t, within-map ts) refl
 
-  within-changed : (ts : List ThreadLife) (i : ℕ) → list_all (is_within n) (changed_at f ts i) ≡ list_all (is_within n) ts
+  within-changed : (ts : List ThreadLife) (i : ℕ) → list_all (is_within n) (map_at f ts i) ≡ list_all (is_within n) ts
   within-changed [] i = refl
   within-changed (t ∷ ts) zero = rw (keeps t) refl
   within-changed (t ∷ ts) (suc i) = rw (later f t ts i) (ap (λ b. is_within n t && b) (within-changed ts i))
@@ -36,10 +36,10 @@ within-started n app start ts = within-map n (started_thread app start) (started
 pub within-ended : (n app : ℕ) (ts : List ThreadLife) → list_all (is_within n) (map (ended_thread_of app) ts) ≡ list_all (is_within n) ts
 within-ended n app ts = within-map n (ended_thread_of app) (ended_keeps app) ts
 
-pub within-finished : (n : ℕ) (ts : List ThreadLife) (i : ℕ) → list_all (is_within n) (changed_at ended_thread ts i) ≡ list_all (is_within n) ts
+pub within-finished : (n : ℕ) (ts : List ThreadLife) (i : ℕ) → list_all (is_within n) (map_at ended_thread ts i) ≡ list_all (is_within n) ts
 within-finished n ts i = within-changed n ended_thread (λ t. refl) ts i
 
-pub within-waiting : (n : ℕ) (waits : Bool) (ts : List ThreadLife) (i : ℕ) → list_all (is_within n) (changed_at (waiting_thread waits) ts i) ≡ list_all (is_within n) ts
+pub within-waiting : (n : ℕ) (waits : Bool) (ts : List ThreadLife) (i : ℕ) → list_all (is_within n) (map_at (waiting_thread waits) ts i) ≡ list_all (is_within n) ts
 within-waiting n waits ts i = within-changed n (waiting_thread waits) (λ t. refl) ts i
 
 -- the threads of one application

@@ -8,7 +8,7 @@ use Rattle.kernel_values.specs.declared.state.Application.{Application}
 use Rattle.kernel_values.specs.declared.state.TableEntry.{TableEntry}
 use Rattle.app_life.specs.declared.life.Life.{Life}
 use Rattle.app_life.specs.declared.threads.ThreadLife.{ThreadLife}
-use Rattle.app_life.specs.Lives.{opening_starts}
+use Rattle.kernel_types.specs.Opening.{opening_starts}
 
 abbrev pub manifest_of : App → Manifest
 manifest_of app = app.manifest

@@ -4,7 +4,7 @@ use Rattle.std.specs.Borrow.{Lends, Fml, MutBor}
 use Rattle.kernel_values.specs.declared.state.Application.{Application}
 use Rattle.kernel_values.specs.declared.state.TableEntry.{TableEntry}
 use Rattle.handle_table.specs.contracts.table.Table.{the_row as table_row}
-use Rattle.app_life.specs.Lists.{changed_at}
+use Rattle.kernel_types.specs.Objects.{map_at}
 use Rattle.app_life.specs.Lives.{Lives}
 use Rattle.app_life.specs.contracts.apps.Apps.{the_row}
 
@@ -12,7 +12,7 @@ abbrev pub table_set : List TableEntry → Application → Application
 table_set table app = record app { table = table }
 
 abbrev pub with_table : Lives → ℕ → List TableEntry → Lives
-with_table lives app table = record lives { apps = changed_at (table_set table) lives.apps app }
+with_table lives app table = record lives { apps = map_at (table_set table) lives.apps app }
 
 abbrev pub lends_table : MutBor Lives → ℕ → MutBor (List TableEntry) → Fml
 lends_table s app r = Lends the_row table_row s r (with_table s.now app)

@@ -1,5 +1,5 @@
 -- Starts and ends of applications and of their threads.
-use Rattle.std.specs.Prelude.{ℕ, Bool, true, false, List, [], ◌+◌, ◌==◌, ◌&&◌, ◌||◌, not, nat_lt, map, Option, Some, None, slice_get, if◌then◌else◌}
+use Rattle.std.specs.Prelude.{ℕ, Bool, true, false, List, [], ◌+◌, ◌==◌, ◌&&◌, ◌||◌, not, map, Option, Some, None, slice_get, if◌then◌else◌}
 use Rattle.std.specs.List.{list_all, flat_map, enumerate_from}
 use Rattle.kernel_values.specs.declared.entry.ActorStatus.{ActorStatus}
 use Rattle.kernel_values.specs.declared.entry.ActorStatus.TheVariants as status
@@ -8,20 +8,15 @@ use Rattle.kernel_values.specs.declared.scene.Manifest.{Manifest}
 use Rattle.kernel_values.specs.declared.state.Application.{Application}
 use Rattle.kernel_values.specs.declared.state.TableEntry.{TableEntry}
 use Rattle.kernel_values.specs.declared.ids.AppId.{AppId}
+use Rattle.kernel_types.specs.Applications.{ended_app, has_start_left, is_started_again, started_app}
+use Rattle.kernel_types.specs.Objects.{map_at}
+use Rattle.kernel_types.specs.Opening.{opening_app}
 use Rattle.app_life.specs.declared.threads.ThreadLife.{ThreadLife}
-use Rattle.app_life.specs.Lists.{changed_at}
 
 -- every application and every thread, each by its number
 pub record Lives : Type 0 where
   pub apps : List Application
   pub threads : List ThreadLife
-
--- an application of the scene starts with it unless its manifest defers it
-abbrev pub opening_starts : Manifest → ℕ
-opening_starts manifest = (if manifest.deferred then 0 else 1)
-
-abbrev pub opening_app : App → Application
-opening_app app = record { manifest = app.manifest; starts = opening_starts app.manifest; running = not app.manifest.deferred; table = []; last = None }
 
 abbrev pub opening_status : Manifest → ActorStatus
 opening_status manifest = (if manifest.deferred then status.Off else status.Running 1)
@@ -36,18 +31,10 @@ opening_threads (place, app) = map (λ script. opening_thread place app.manifest
 unfoldable pub opening_lives : List App → Lives
 opening_lives apps = record { apps = map opening_app apps; threads = flat_map opening_threads (enumerate_from 0 apps) }
 
--- an application starts at most 4 times
-abbrev pub has_start_left : Application → Bool
-has_start_left app = nat_lt app.starts 4
-
 -- a start is made of an application that does not run, while one is left
 abbrev pub may_start : Option Application → Bool
 may_start None = false
 may_start (Some app) = not app.running && has_start_left app
-
--- one more start: an empty table, and no number that a `waitany` reported
-abbrev pub started_app : Application → Application
-started_app app = record app { starts = app.starts + 1; running = true; table = []; last = None }
 
 abbrev pub started_thread : ℕ → ℕ → ThreadLife → ThreadLife
 started_thread app start thread = (if thread.app.0 == app then record thread { status = status.Running start } else thread)
@@ -55,7 +42,7 @@ started_thread app start thread = (if thread.app.0 == app then record thread { s
 abbrev pub started_as : ℕ → Option Application → Lives → Lives
 started_as app None lives = lives
 started_as app (Some was) lives = record {
-  apps = changed_at started_app lives.apps app;
+  apps = map_at started_app lives.apps app;
   threads = map (started_thread app (was.starts + 1)) lives.threads;
 }
 
@@ -66,9 +53,6 @@ started app lives = started_as app (slice_get lives.apps app) lives
 -- where a start is made
 abbrev pub started_if_may : ℕ → Lives → Lives
 started_if_may app lives = (if may_start (slice_get lives.apps app) then started app lives else lives)
-
-abbrev pub ended_app : Application → Application
-ended_app app = record app { running = false; table = [] }
 
 abbrev pub ended_status : ActorStatus → ActorStatus
 ended_status status.Off = status.Off
@@ -84,11 +68,7 @@ ended_thread_of app thread = (if thread.app.0 == app then ended_thread thread el
 
 -- the application no longer runs, and its threads are Ended
 abbrev pub stopped_app : ℕ → Lives → Lives
-stopped_app app lives = record { apps = changed_at ended_app lives.apps app; threads = map (ended_thread_of app) lives.threads }
-
-abbrev pub is_started_again : Option Application → Bool
-is_started_again None = false
-is_started_again (Some app) = app.manifest.restart && has_start_left app
+stopped_app app lives = record { apps = map_at ended_app lives.apps app; threads = map (ended_thread_of app) lives.threads }
 
 -- the end of an application: its threads are Ended; where its manifest says so and a start is left, it starts again
 abbrev pub application_ended : ℕ → Lives → Lives

@@ -9,7 +9,7 @@ use Rattle.std.specs.Cmp.Lexicographic.{slice_cmp}
 use Rattle.kernel_values.specs.declared.scene.Manifest.{Manifest}
 use Rattle.kernel_values.specs.declared.scene.StartPort.{StartPort}
 use Rattle.app_life.specs.declared.registry.StartPlace.{StartPlace}
-use Rattle.app_life.specs.StartPorts.{is_start_port}
+use Rattle.kernel_types.specs.Applications.{is_start_port}
 
 abbrev pub place_of : ℕ → StartPort → StartPlace
 place_of app port = record { app = record { 0 = app }; flags = port.flags }

@@ -2,9 +2,10 @@
 
 ghost use Rattle.std.specs.Prelude.{◌≡◌, ◌<◌, [], length, false, true, Some, IsTrue, IfOk, map, option_map, slice_get, if◌then◌else◌};
 ghost use Rattle.std.specs.Borrow.{sem};
-ghost use Rattle.app_life.specs.Lists.{changed_at};
+ghost use Rattle.kernel_types.specs.Objects.{map_at};
 ghost use Rattle.app_life.specs.StartPorts.{serving, serving_flags};
-ghost use Rattle.app_life.specs.Lives.{opening_lives, may_start, started_if_may, stopped_app, application_ended, is_started_again, ended_thread, is_last_of, waiting_thread, reported, app_runs, table_of, last_of, thread_runs, thread_goes_on, thread_app, thread_status, uuid_of, app_table, app_restarts};
+ghost use Rattle.app_life.specs.Lives.{opening_lives, may_start, started_if_may, stopped_app, application_ended, ended_thread, is_last_of, waiting_thread, reported, app_runs, table_of, last_of, thread_runs, thread_goes_on, thread_app, thread_status, uuid_of, app_table, app_restarts};
+ghost use Rattle.kernel_types.specs.Applications.{is_started_again};
 
 use crate::life::{Life, begin_life, next_start, opening_lives, report_life, stop_life};
 use crate::registry::Registry;
@@ -94,7 +95,7 @@ impl Apps {
     pub fn finish(&mut self, actor: ActorId) -> bool
         requires { IsTrue (thread_runs (slice_get self.old.threads actor.0)) }
         ensures last { result ≡ is_last_of (slice_get self.old.threads actor.0) self.new.threads }
-        ensures after { self.new ≡ record self.old { threads = changed_at ended_thread self.old.threads actor.0 } }
+        ensures after { self.new ≡ record self.old { threads = map_at ended_thread self.old.threads actor.0 } }
     {
         let app = self.app_of(actor);
         end_thread(&mut self.threads, actor.0 as usize);
@@ -194,7 +195,7 @@ impl Apps {
     /// A thread that runs begins to wait, or one that waits runs again.
     pub fn set_waiting(&mut self, actor: ActorId, waits: bool)
         requires { IsTrue (thread_goes_on (slice_get self.old.threads actor.0)) }
-        ensures { self.new ≡ record self.old { threads = changed_at (waiting_thread waits) self.old.threads actor.0 } }
+        ensures { self.new ≡ record self.old { threads = map_at (waiting_thread waits) self.old.threads actor.0 } }
     {
         set_thread_waiting(&mut self.threads, actor.0 as usize, waits);
     }
@@ -219,7 +220,7 @@ impl Apps {
 
     /// The number is the last that a `waitany` of the application reported.
     pub fn set_last(&mut self, app: AppId, handle: Handle)
-        ensures { self.new ≡ record self.old { apps = changed_at (reported handle) self.old.apps app.0 } }
+        ensures { self.new ≡ record self.old { apps = map_at (reported handle) self.old.apps app.0 } }
     {
         report_life(&mut self.lives, app.0 as usize, handle);
     }

@@ -1,7 +1,7 @@
 //! What changes in one application.
 
 ghost use Rattle.std.specs.Prelude.{◌≡◌, [], map, true, slice_get, option_and_then, IfOk};
-ghost use Rattle.app_life.specs.Lists.{changed_at};
+ghost use Rattle.kernel_types.specs.Objects.{map_at};
 ghost use Rattle.app_life.specs.Inside.{begun, is_left, next_start, stopped, reported_life, opening_life, life_table};
 
 use handle_table::Table;
@@ -56,7 +56,7 @@ pub fn next_start(lives: &Items<Life>, at: usize) -> Option<u32>
 pub fn begin_life(lives: &mut Items<Life>, at: usize)
     requires left { is_left (slice_get lives.old at) ≡ true }
     requires empty { life_table (slice_get lives.old at) ≡ [] }
-    ensures { lives.new ≡ changed_at begun lives.old at }
+    ensures { lives.new ≡ map_at begun lives.old at }
 {
     if let Some(life) = lives.get_mut(at) {
         life.starts += 1;
@@ -68,7 +68,7 @@ pub fn begin_life(lives: &mut Items<Life>, at: usize)
 /// The application at the place no longer runs.
 pub fn stop_life(lives: &mut Items<Life>, at: usize)
     requires { life_table (slice_get lives.old at) ≡ [] }
-    ensures { lives.new ≡ changed_at stopped lives.old at }
+    ensures { lives.new ≡ map_at stopped lives.old at }
 {
     if let Some(life) = lives.get_mut(at) {
         life.running = false;
@@ -77,7 +77,7 @@ pub fn stop_life(lives: &mut Items<Life>, at: usize)
 
 /// The number is the last that the application at the place was told of.
 pub fn report_life(lives: &mut Items<Life>, at: usize, handle: Handle)
-    ensures { lives.new ≡ changed_at (reported_life handle) lives.old at }
+    ensures { lives.new ≡ map_at (reported_life handle) lives.old at }
 {
     if let Some(life) = lives.get_mut(at) {
         life.last = Some(handle);

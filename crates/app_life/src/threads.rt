@@ -2,7 +2,7 @@
 
 ghost use Rattle.std.specs.Prelude.{◌≡◌, ◌≤◌, ◌++◌, map, length, OnOk, IfOk, slice_get};
 ghost use Rattle.std.specs.List.{list_all, flat_map, enumerate_from};
-ghost use Rattle.app_life.specs.Lists.{changed_at};
+ghost use Rattle.kernel_types.specs.Objects.{map_at};
 ghost use Rattle.app_life.specs.Lives.{opening_threads, opening_status, started_thread, ended_thread, ended_thread_of, ended_status, is_over, is_elsewhere_or_over, waiting_thread, waiting_status};
 
 use kernel_values::{ActorStatus, App, AppId, Items, Manifest, NoMemory};
@@ -117,7 +117,7 @@ pub fn opening_threads(alloc: Global, apps: &[App]) -> Result<Items<ThreadLife>,
 
 // The thread at the place runs, where it is one of the application's.
 fn start_thread(threads: &mut Items<ThreadLife>, at: usize, app: AppId, start: u32)
-    ensures { threads.new ≡ changed_at (started_thread app.0 start) threads.old at }
+    ensures { threads.new ≡ map_at (started_thread app.0 start) threads.old at }
 {
     if let Some(thread) = threads.get_mut(at) {
         thread.start(app, start);
@@ -135,7 +135,7 @@ pub fn start_threads(threads: &mut Items<ThreadLife>, app: AppId, start: u32)
 
 // The thread at the place is Ended, where it is one of the application's.
 fn end_thread_of(threads: &mut Items<ThreadLife>, at: usize, app: AppId)
-    ensures { threads.new ≡ changed_at (ended_thread_of app.0) threads.old at }
+    ensures { threads.new ≡ map_at (ended_thread_of app.0) threads.old at }
 {
     if let Some(thread) = threads.get_mut(at) {
         thread.end_of(app);
@@ -165,7 +165,7 @@ pub fn are_over(threads: &[ThreadLife], app: AppId) -> bool
 
 /// The thread at the place is Ended.
 pub fn end_thread(threads: &mut Items<ThreadLife>, at: usize)
-    ensures { threads.new ≡ changed_at ended_thread threads.old at }
+    ensures { threads.new ≡ map_at ended_thread threads.old at }
 {
     if let Some(thread) = threads.get_mut(at) {
         thread.status = ended(thread.status);
@@ -174,7 +174,7 @@ pub fn end_thread(threads: &mut Items<ThreadLife>, at: usize)
 
 /// The thread at the place begins to wait, or runs again.
 pub fn set_thread_waiting(threads: &mut Items<ThreadLife>, at: usize, waits: bool)
-    ensures { threads.new ≡ changed_at (waiting_thread waits) threads.old at }
+    ensures { threads.new ≡ map_at (waiting_thread waits) threads.old at }
 {
     if let Some(thread) = threads.get_mut(at) {
         thread.status = waiting(thread.status, waits);
