@@ -1,5 +1,7 @@
 -- One set's members are changed: what holds of all sets then.
 use Rattle.std.proofs.Common.{◌≡◌, ◌⊎◌, ℕ, zero, suc, ◌<◌, ◌≤◌, ◌==◌, Bool, true, false, not, cond, List, [], ◌∷◌, ◌++◌, length, map, drop, set, get_or, slice_get, Option, Some, None, refl, sym, ap, ◌∙◌, inl, inr, arith, subst}
+use Rattle.std.specs.Global.{Vec}
+use Rattle.std.specs.BTreeMap.{BTreeMap}
 use Rattle.std.specs.Option.{option_map, IfSome}
 use Rattle.std.specs.List.{find, filter, position_or_len}
 use Rattle.std.proofs.lemmas.Bool.{cases_eq}
@@ -10,10 +12,12 @@ use Rattle.kernel_values.specs.declared.flags.Events.{Events}
 use Rattle.object_store.specs.declared.key.ObjKey.{ObjKey}
 use Rattle.handle_set.specs.declared.records.Told.{Told}
 use Rattle.handle_set.specs.declared.settle.OpenSet.{OpenSet}
+use Rattle.handle_set.specs.Holders.{IsHeld, is_holder}
+use Rattle.handle_set.specs.Spreading.{IsExactBut}
 use Rattle.handle_set.specs.Members.{is_ready, is_other, has_object, with_events, with_mask, after_pick, remasked, map_at, set_if}
 use Rattle.handle_set.specs.Sets.{has_id, has_member, is_member, id_of, has_ready, ready_in, settled_told, settled_in, with_members, with_changed, members_changed, without_label, reported, is_open, Each, IsExact, IsKnown, IsRankedIn, IsRankedBy, IsRanked, IsSettled, IsUpToDate, AreOnce, are_of}
 use Rattle.handle_set.proofs.Places.{get_set, get_other, set_same, some_same, got, get_map, get_past, map_at_is, none_passes}
-use Rattle.handle_set.proofs.Levels.{now_at, open_kept, ready_other, same_ids, same_known, all_fixed, get_mapped}
+use Rattle.handle_set.proofs.Levels.{flipped, now_at, open_kept, ready_other, same_ids, same_known, all_fixed, get_mapped}
 
 -- what a change of the members leaves of each: its object, and what is told of it
 abbrev pub IsFewer : (List Told → List Told) → Type 1
@@ -98,7 +102,7 @@ module _ (change : List Told → List Told) (sets : List OpenSet) (place : ℕ) 
   changed_ids = map-set id_of sets place (with_changed change s) ∙ set_same (map id_of sets) place s.id (get_map id_of sets place s here)
 
   -- what each set has, the changed one too
-  each_set_at : (P : OpenSet → Type 0) → Each sets P → P (with_changed change s) → Each (set sets place (with_changed change s)) P
+  pub each_set_at : (P : OpenSet → Type 0) → Each sets P → P (with_changed change s) → Each (set sets place (with_changed change s)) P
   each_set_at P each one k t at = by_place (cases_eq k place)
     where
       by_place : (k ≡ place) ⊎ (k ≡ place → ⊥) → P t
@@ -123,6 +127,12 @@ module _ (change : List Told → List Told) (sets : List OpenSet) (place : ℕ) 
       all_told : Each (set sets place (with_changed change s)) (λ u. Each u.members (λ v. are_of (ready_in sets v.object.serial) v.events))
       all_told = each_set_at (λ u. Each u.members (λ v. are_of (ready_in sets v.object.serial) v.events)) (λ i u at_i j v in_u. told_of (ready_in sets v.object.serial) v (get_mapped (settled_in sets) u.members j v in_u (exact i u at_i))) each
 
+  -- all but what is told of the set itself
+  pub changed_but : IsExact sets → Each (change s.members) (λ t. are_of (ready_in sets t.object.serial) t.events) → IsExactBut s.id (set sets place (with_changed change s))
+  changed_but exact each k t at j told there other =
+      subst (λ ready. are_of ready told.events) (sym (ready_other sets place s (with_changed change s) told.object.serial here refl (flipped told.object.serial s.id other)))
+      (each_set_at (λ u. Each u.members (λ v. are_of (ready_in sets v.object.serial) v.events)) (λ i u at_i j v in_u. told_of (ready_in sets v.object.serial) v (get_mapped (settled_in sets) u.members j v in_u (exact i u at_i))) each k t at j told there)
+
   -- a change that adds nothing
   module _ (fewer : IsFewer change) (settled : IsSettled sets) where
     pub fewer_ranked : IsRanked (set sets place (with_changed change s))
@@ -136,6 +146,9 @@ module _ (change : List Told → List Told) (sets : List OpenSet) (place : ℕ) 
 
     pub fewer_exact : has_ready (with_changed change s) ≡ has_ready s → IsExact (set sets place (with_changed change s))
     fewer_exact same = changed_exact (λ k t at j told there. ready_kept sets place s (with_changed change s) told.object.serial here refl same) settled.exact fewer_told
+
+    pub fewer_but : IsExactBut s.id (set sets place (with_changed change s))
+    fewer_but = changed_but settled.exact fewer_told
 
     pub fewer_once : AreOnce (map id_of (set sets place (with_changed change s)))
     fewer_once = subst AreOnce (sym changed_ids) settled.once
@@ -224,5 +237,20 @@ module _ (change : List Told → List Told) (sets : List OpenSet) (id place : �
         let Q : Option OpenSet → Type 0 = λ o. IfSome o (λ t. has_ready t ≡ was → IsExact (set sets place (with_changed change s))) in
         subst P (sym written) (subst Q (sym (get_set sets place (with_changed change s) s here)) (λ same. fewer_exact change sets place s here fewer settled (same ∙ known)))
 
+    pub left_rest : IfSome (slice_get (set sets place (with_members members (get_or sets place s))) place) (λ t. IsExactBut t.id (set sets place (with_members members (get_or sets place s))))
+    left_rest =
+        let P : List OpenSet → Type 0 = λ xs. IfSome (slice_get xs place) (λ t. IsExactBut t.id xs) in
+        let Q : Option OpenSet → Type 0 = λ o. IfSome o (λ t. IsExactBut t.id (set sets place (with_changed change s))) in
+        subst P (sym written) (subst Q (sym (get_set sets place (with_changed change s) s here)) (fewer_but change sets place s here fewer settled))
+
+    pub left_once : AreOnce (map id_of (set sets place (with_members members (get_or sets place s))))
+    left_once = subst (λ xs. AreOnce (map id_of xs)) (sym written) (fewer_once change sets place s here fewer settled)
+
+    pub left_held : (holders : BTreeMap ℕ (Vec ℕ)) → IsHeld holders sets → IsHeld holders (set sets place (with_members members (get_or sets place s)))
+    left_held holders held =
+        subst (IsHeld holders) (sym written)
+        (each_set_at change sets place s here (λ t. Each t.members (λ told. is_holder holders told.object.serial t.id ≡ true)) held
+        (fewer (λ o i e. is_holder holders o.serial s.id ≡ true) s.members (held place s here)))
+
     pub left_settled : (now : List OpenSet) → IsUpToDate (set sets place (with_members members (get_or sets place s))) now → IsRanked now → IsSettled now
-    left_settled now up ranked = brought_up (set sets place (with_members members (get_or sets place s))) now up (subst (λ xs. AreOnce (map id_of xs)) (sym written) (fewer_once change sets place s here fewer settled)) left_known ranked
+    left_settled now up ranked = brought_up (set sets place (with_members members (get_or sets place s))) now up left_once left_known ranked

@@ -7,7 +7,9 @@ pub mod Turns
 pub mod Levels
 pub mod Picking
 pub mod Changing
+pub mod Spreading
 pub mod Telling
+pub mod Holding
 pub mod Opening
 pub mod Standing
 pub mod Circles

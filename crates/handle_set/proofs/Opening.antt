@@ -1,10 +1,13 @@
 -- Sets are opened and closed.
 use Rattle.std.proofs.Common.{◌≡◌, ℕ, zero, suc, ◌+◌, ◌<◌, ◌≤◌, ◌==◌, ◌||◌, Bool, true, false, not, cond, List, [], ◌∷◌, ◌++◌, length, map, slice_get, Some, refl, sym, ap, ◌∙◌, arith, subst, eq-eqb}
+use Rattle.std.specs.Global.{Vec}
+use Rattle.std.specs.BTreeMap.{BTreeMap}
 use Rattle.std.specs.Option.{option_map}
 use Rattle.std.specs.List.{find, filter, list_any, position_or_len, remove}
 use Rattle.std.proofs.lemmas.Bool.Decides.{nat_tests}
 use Rattle.std.proofs.lemmas.List.{map-append}
 use Rattle.handle_set.specs.declared.settle.OpenSet.{OpenSet}
+use Rattle.handle_set.specs.Holders.{IsHeld, is_holder}
 use Rattle.handle_set.specs.Members.{has_object}
 use Rattle.handle_set.specs.Sets.{has_id, has_member, has_ready, is_member, is_number, id_of, is_open, is_other_set, ready_in, settled_told, settled_in, empty_set, Each, IsExactIn, IsRankedIn, IsRankedBy, IsSettled, AreOnce}
 use Rattle.handle_set.proofs.Places.{none_passes, some_same}
@@ -104,6 +107,9 @@ module _ (sets : List OpenSet) (new : ℕ) (settled : IsSettled sets) (closed : 
         ap (λ ready. settled_told ready told) (ready_more sets new told.object.serial (alone sets new none k s at j told there)) ∙ get_mapped (settled_in sets) s.members j told there (settled.exact k s at))) refl;
   }
 
+pub opened_held : (holders : BTreeMap ℕ (Vec ℕ)) (sets : List OpenSet) (new : ℕ) → IsHeld holders sets → IsHeld holders (sets ++ empty_set new ∷ [])
+opened_held holders sets new held = each_more (λ s. Each s.members (λ told. is_holder holders told.object.serial s.id ≡ true)) sets (empty_set new) held (λ j told there. absurd (cc))
+
 -- a set is closed
 
 once_left : (gone : ℕ) (sets : List OpenSet) → AreOnce (map id_of sets) → AreOnce (map id_of (filter (is_other_set gone) sets))
@@ -157,6 +163,9 @@ closed_settled sets gone settled none = record {
   exact = each_left (is_other_set gone) (IsExactIn (filter (is_other_set gone) sets)) sets (λ k s at. all_fixed (settled_in (filter (is_other_set gone) sets)) s.members (λ j told there.
       ap (λ ready. settled_told ready told) (ready_left gone told.object.serial sets (alone sets gone none k s at j told there)) ∙ get_mapped (settled_in sets) s.members j told there (settled.exact k s at)));
 }
+
+pub closed_held : (holders : BTreeMap ℕ (Vec ℕ)) (sets : List OpenSet) (gone : ℕ) → IsHeld holders sets → IsHeld holders (filter (is_other_set gone) sets)
+closed_held holders sets gone held = each_left (is_other_set gone) (λ s. Each s.members (λ told. is_holder holders told.object.serial s.id ≡ true)) sets held
 
 -- the place at which it stood is taken out
 pub all_others : (gone : ℕ) (sets : List OpenSet) → length sets ≤ position_or_len (has_id gone) sets → filter (is_other_set gone) sets ≡ sets

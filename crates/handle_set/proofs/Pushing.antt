@@ -1,6 +1,8 @@
 -- A member is added that nothing speaks against.
 use Rattle.std.proofs.Common.{◌≡◌, ℕ, suc, ◌+◌, ◌<◌, ◌==◌, ◌||◌, Bool, true, false, not, cond, List, [], ◌∷◌, length, map, set, get_or, slice_get, Option, Some, None, refl, sym, ap, ◌∙◌, arith, subst, tests}
 use Rattle.std.specs.Prelude.{nat_lt, nat_le}
+use Rattle.std.specs.Global.{Vec}
+use Rattle.std.specs.BTreeMap.{BTreeMap}
 use Rattle.std.specs.Option.{IfSome}
 use Rattle.std.specs.List.{find, position_or_len}
 use Rattle.std.proofs.lemmas.Bool.Decides.{nat_tests}
@@ -17,10 +19,12 @@ use Rattle.handle_set.specs.declared.records.Told.{Told}
 use Rattle.handle_set.specs.declared.settle.OpenSet.{OpenSet}
 use Rattle.handle_set.specs.Adding.{add_refusal, members_in, told_as, with_added, with_pushed}
 use Rattle.handle_set.specs.Chains.{member_of, objects_of, set_value}
-use Rattle.handle_set.specs.Sets.{AreOnce, CanHave, IsExact, IsKnown, IsRanked, IsSettled, IsUpToDate, are_of, has_id, has_labelled, has_ready, id_of, is_open, ready_in, settled_in, with_changed, with_members}
+use Rattle.handle_set.specs.Holders.{IsHeld, is_holder}
+use Rattle.handle_set.specs.Spreading.{IsExactBut}
+use Rattle.handle_set.specs.Sets.{AreOnce, CanHave, Each, IsExact, IsKnown, IsRanked, IsSettled, IsUpToDate, are_of, has_id, has_labelled, has_ready, id_of, is_open, ready_in, settled_in, with_changed, with_members}
 use Rattle.handle_set.proofs.Places.{get_set, got}
 use Rattle.handle_set.proofs.Levels.{get_mapped}
-use Rattle.handle_set.proofs.Changing.{brought_up, changed_exact, changed_ids, changed_is, changed_known, each_push, found, found_id, ready_kept, told_of}
+use Rattle.handle_set.proofs.Changing.{brought_up, changed_but, changed_exact, changed_ids, changed_is, changed_known, each_push, each_set_at, found, found_id, ready_kept, told_of}
 use Rattle.handle_set.proofs.Depths.{short_ranked, stays_short}
 use Rattle.handle_set.proofs.Standing.{ranked_short, set_at}
 
@@ -105,9 +109,15 @@ module _ (sets : List OpenSet) (id place : ℕ) (s : OpenSet) (member : Member) 
   known_after : IsKnown after
   known_after = changed_known (with_pushed told) sets place s here settled.known (each_push (λ t. t.inner ≡ is_open sets t.object.serial) s.members told (settled.known place s here) refl)
 
+  told_after : Each (with_pushed told s.members) (λ t. are_of (ready_in sets t.object.serial) t.events)
+  told_after = each_push (λ t. are_of (ready_in sets t.object.serial) t.events) s.members told (λ j v in_s. told_of (ready_in sets v.object.serial) v (get_mapped (settled_in sets) s.members j v in_s (settled.exact place s here))) can
+
+  exact_but : IsExactBut s.id after
+  exact_but = changed_but (with_pushed told) sets place s here settled.exact told_after
+
   exact_after : has_ready (with_changed (with_pushed told) s) ≡ has_ready s → IsExact after
   exact_after same = changed_exact (with_pushed told) sets place s here (λ k t at j u there. ready_kept sets place s (with_changed (with_pushed told) s) u.object.serial here refl same) settled.exact
-      (each_push (λ t. are_of (ready_in sets t.object.serial) t.events) s.members told (λ j v in_s. told_of (ready_in sets v.object.serial) v (get_mapped (settled_in sets) s.members j v in_s (settled.exact place s here))) can)
+      told_after
 
   -- the sets as the code leaves them
   module _ (members : List Told) (is : members ≡ with_pushed told s.members) where
@@ -130,5 +140,20 @@ module _ (sets : List OpenSet) (id place : ℕ) (s : OpenSet) (member : Member) 
         let Q : Option OpenSet → Type 0 = λ o. IfSome o (λ t. has_ready t ≡ was → IsExact after) in
         subst P (sym written) (subst Q (sym (get_set sets place (with_changed (with_pushed told) s) s here)) (λ same. exact_after (same ∙ known)))
 
+    pub pushed_rest : IfSome (slice_get (set sets place (with_members members (get_or sets place s))) place) (λ t. IsExactBut t.id (set sets place (with_members members (get_or sets place s))))
+    pushed_rest =
+        let P : List OpenSet → Type 0 = λ xs. IfSome (slice_get xs place) (λ t. IsExactBut t.id xs) in
+        let Q : Option OpenSet → Type 0 = λ o. IfSome o (λ t. IsExactBut t.id after) in
+        subst P (sym written) (subst Q (sym (get_set sets place (with_changed (with_pushed told) s) s here)) exact_but)
+
+    pub pushed_once : AreOnce (map id_of (set sets place (with_members members (get_or sets place s))))
+    pushed_once = subst (λ xs. AreOnce (map id_of xs)) (sym written) once_after
+
+    pub pushed_held : (holders : BTreeMap ℕ (Vec ℕ)) → IsHeld holders sets → is_holder holders member.object.serial id ≡ true → IsHeld holders (set sets place (with_members members (get_or sets place s)))
+    pushed_held holders held holder =
+        subst (IsHeld holders) (sym written)
+        (each_set_at (with_pushed told) sets place s here (λ t. Each t.members (λ told. is_holder holders told.object.serial t.id ≡ true)) held
+        (each_push (λ t. is_holder holders t.object.serial s.id ≡ true) s.members told (held place s here) (subst (λ n. is_holder holders member.object.serial n ≡ true) (sym s_id) holder)))
+
     pub pushed_settled : (now : List OpenSet) → IsUpToDate (set sets place (with_members members (get_or sets place s))) now → IsRanked now → IsSettled now
-    pushed_settled now up ranked = brought_up (set sets place (with_members members (get_or sets place s))) now up (subst (λ xs. AreOnce (map id_of xs)) (sym written) once_after) pushed_known ranked
+    pushed_settled now up ranked = brought_up (set sets place (with_members members (get_or sets place s))) now up pushed_once pushed_known ranked

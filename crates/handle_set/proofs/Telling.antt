@@ -1,25 +1,17 @@
 -- An object is told in all sets: what holds of all sets then.
-use Rattle.std.proofs.Common.{◌≡◌, ℕ, ◌==◌, Bool, true, false, cond, List, [], ◌∷◌, map, set, slice_get, Some, refl, sym, ap, ◌∙◌, arith, subst}
+use Rattle.std.proofs.Common.{◌≡◌, ℕ, ◌==◌, Bool, true, false, cond, List, [], ◌∷◌, map, slice_get, Some, refl, sym, ap, ◌∙◌, subst}
 use Rattle.std.specs.Option.{option_map}
-use Rattle.std.specs.List.{find}
-use Rattle.std.proofs.lemmas.List.{map-set}
-use Rattle.std.proofs.lemmas.Bool.Decides.{nat_tests}
+use Rattle.std.proofs.lemmas.Bool.{false≢true}
 use Rattle.kernel_values.specs.declared.flags.Events.{Events}
 use Rattle.handle_set.specs.declared.records.Told.{Told}
 use Rattle.handle_set.specs.declared.settle.OpenSet.{OpenSet}
-use Rattle.handle_set.specs.Members.{map_at, with_events, with_told}
-use Rattle.handle_set.specs.Sets.{has_id, has_ready, ready_in, settled_told, settled_in, id_of, is_open, Each, IsExact, IsKnown, IsSettled, IsUpToDate, AreOnce, set_told, are_of, CanHave}
-use Rattle.handle_set.proofs.Places.{get_map, map_at_is, map_each, set_same}
-use Rattle.handle_set.proofs.Levels.{all_fixed, get_mapped, told_object, told_open, told_ranked, same_ranked}
-use Rattle.handle_set.proofs.Changing.{told_of, of_told, brought_up}
-
--- readiness by place, where one set is as ready as it was
-pub map_at_kept : (object : ℕ) (events : Events) (place : ℕ) (sets : List OpenSet) (s : OpenSet) → slice_get sets place ≡ Some s → has_ready (set_told object events s) ≡ has_ready s → map has_ready (map_at (set_told object events) place sets) ≡ map has_ready sets
-map_at_kept object events place sets s here same =
-    ap (map has_ready) (map_at_is (set_told object events) sets place s here)
-    ∙ map-set has_ready sets place (set_told object events s)
-    ∙ ap (λ b. set (map has_ready sets) place b) same
-    ∙ set_same (map has_ready sets) place (has_ready s) (get_map has_ready sets place s here)
+use Rattle.handle_set.specs.Members.{with_events, with_told}
+use Rattle.handle_set.specs.Sets.{has_ready, ready_events, ready_in, settled_in, id_of, is_open, Each, IsKnown, IsSettled, IsUpToDate, AreOnce, LeavesFollow, set_told, are_of, CanHave}
+use Rattle.handle_set.specs.Spreading.{IsExactBut, IsSpread, everyone}
+use Rattle.handle_set.proofs.Places.{get_map, map_each}
+use Rattle.handle_set.proofs.Levels.{equal_ids, get_mapped, told_object, told_open, told_ranked, told_shape, same_ranked}
+use Rattle.handle_set.proofs.Changing.{told_of, brought_up}
+use Rattle.handle_set.proofs.Spreading.{find_once, is_open_at, spread_exact, spread_leaves}
 
 pub told_ids : (object : ℕ) (events : Events) (sets : List OpenSet) → map id_of (map (set_told object events) sets) ≡ map id_of sets
 told_ids object events [] = refl
@@ -34,46 +26,46 @@ told_known object events sets known = map_each (set_told object events) (λ s. E
     map_each (with_told object events) (λ told. told.inner ≡ is_open (map (set_told object events) sets) told.object.serial) s.members (λ j told there.
     kept_inner events told (told.object.serial == object) ∙ known k s at j told there ∙ sym (told_open object events sets told.object.serial) ∙ ap (λ o. is_open (map (set_told object events) sets) o.serial) (sym (told_object object events told))))
 
--- where no set became ready or ceased to be
-
-ready_same : (object : ℕ) (events : Events) (sets : List OpenSet) (id : ℕ) → map has_ready (map (set_told object events) sets) ≡ map has_ready sets → ready_in (map (set_told object events) sets) id ≡ ready_in sets id
-ready_same object events [] id same = refl
-ready_same object events (x ∷ xs) id same = by_test (x.id == id) (ready_same object events xs id (tail_same _ _ _ _ same))
-  where
-    head_same : (a b : Bool) (xs ys : List Bool) → a ∷ xs ≡ b ∷ ys → a ≡ b
-    head_same a b xs ys is = cc
-
-    tail_same : (a b : Bool) (xs ys : List Bool) → a ∷ xs ≡ b ∷ ys → xs ≡ ys
-    tail_same a b xs ys is = cc
-
-    by_test : (b : Bool) → ready_in (map (set_told object events) xs) id ≡ ready_in xs id → option_map has_ready (cond b (Some (set_told object events x)) (find (has_id id) (map (set_told object events) xs))) ≡ option_map has_ready (cond b (Some x) (find (has_id id) xs))
-    by_test true rest = ap Some (head_same _ _ _ _ same)
-    by_test false rest = rest
-
-pub told_exact : (object : ℕ) (events : Events) (sets : List OpenSet) → IsExact sets → CanHave sets object events → map has_ready (map (set_told object events) sets) ≡ map has_ready sets → IsExact (map (set_told object events) sets)
-told_exact object events sets exact can same = map_each (set_told object events) (λ s. map (settled_in (map (set_told object events) sets)) s.members ≡ s.members) sets (λ k s at.
-    all_fixed (settled_in (map (set_told object events) sets)) (map (with_told object events) s.members) (map_each (with_told object events) (λ told. settled_in (map (set_told object events) sets) told ≡ told) s.members (λ j told there.
-    let object_is = told_object object events told in
-    let ready : ready_in (map (set_told object events) sets) (with_told object events told).object.serial ≡ ready_in sets told.object.serial =
-    ap (λ o. ready_in (map (set_told object events) sets) o.serial) object_is ∙ ready_same object events sets told.object.serial same in
-    ap (λ r. settled_told r (with_told object events told)) ready
-    ∙ by_test told (told.object.serial == object) refl (told_of (ready_in sets told.object.serial) told (get_mapped (settled_in sets) s.members j told there (exact k s at))))))
-  where
-    equal : (a b : ℕ) → (a == b) ≡ true → a ≡ b
-    equal a b is = grind (arith, nat_tests)
-
-    by_test : (told : Told) (b : Bool) → (told.object.serial == object) ≡ b → are_of (ready_in sets told.object.serial) told.events → settled_told (ready_in sets told.object.serial) (cond b (with_events events told) told) ≡ cond b (with_events events told) told
-    by_test told true is was =
-        let now : are_of (ready_in sets told.object.serial) events = subst (λ n. are_of (ready_in sets n) events) (sym (equal told.object.serial object is)) can in
-        of_told (ready_in sets told.object.serial) (with_events events told) now
-    by_test told false is was = of_told (ready_in sets told.object.serial) told was
-
 pub told_settled : (object : ℕ) (events : Events) (sets now : List OpenSet) → IsSettled sets → IsUpToDate (map (set_told object events) sets) now → IsSettled now
 told_settled object events sets now settled up =
     brought_up (map (set_told object events) sets) now up (subst AreOnce (sym (told_ids object events sets)) settled.once) (told_known object events sets settled.known)
     (settled.ranked.0, same_ranked settled.ranked.0 now (map (set_told object events) sets) up.shape (told_ranked object events settled.ranked.0 sets settled.ranked.1))
 
-pub told_rests : (object : ℕ) (events : Events) (sets now : List OpenSet) → IsSettled sets → CanHave sets object events → now ≡ map (set_told object events) sets → map has_ready now ≡ map has_ready sets → IsUpToDate (map (set_told object events) sets) now
-told_rests object events sets now settled can is same =
-    subst (λ xs. IsUpToDate (map (set_told object events) sets) xs) (sym is)
-    (record { shape = refl; leaves = λ f follow. follow; exact = told_exact object events sets settled.exact can (ap (map has_ready) (sym is) ∙ same) })
+-- the object was told in all sets, and what is above them
+
+module _ (object : ℕ) (events : Events) (sets now : List OpenSet) (settled : IsSettled sets) (can : CanHave sets object events) (spread : IsSpread everyone object events sets now) where
+  but : IsExactBut object sets
+  but k s at j t there other = told_of (ready_in sets t.object.serial) t (get_mapped (settled_in sets) s.members j t there (settled.exact k s at))
+
+  -- what the sets with the object told say of a member
+  told_at : (f : ℕ → ℕ) → LeavesFollow f (map (set_told object events) sets) → (k : ℕ) (s : OpenSet) → slice_get sets k ≡ Some s → (j : ℕ) (t : Told) → slice_get s.members j ≡ Some t → (b : Bool) → (t.object.serial == object) ≡ b → is_open sets t.object.serial ≡ false → (cond b (with_events events t) t).events.0 ≡ f t.object.serial
+  told_at f follow k s at j t there b is closed =
+      let told = follow k (set_told object events s) (get_map (set_told object events) sets k s at) j (with_told object events t) (get_map (with_told object events) s.members j t there) in
+      let P : Told → Type 0 = λ u. is_open (map (set_told object events) sets) u.object.serial ≡ false → u.events.0 ≡ f u.object.serial in
+      by_test b (subst P (ap (λ c. cond c (with_events events t) t) is) told) (told_open object events sets t.object.serial ∙ closed)
+    where
+      by_test : (c : Bool) → (is_open (map (set_told object events) sets) (cond c (with_events events t) t).object.serial ≡ false → (cond c (with_events events t) t).events.0 ≡ f (cond c (with_events events t) t).object.serial) → is_open (map (set_told object events) sets) t.object.serial ≡ false → (cond c (with_events events t) t).events.0 ≡ f t.object.serial
+      by_test true told shut = told shut
+      by_test false told shut = told shut
+
+  pub spread_told : IsUpToDate (map (set_told object events) sets) now
+  spread_told = record {
+    shape = spread.shape ∙ sym (told_shape object events sets);
+    leaves = λ f follow. spread_leaves object events sets now spread can f
+        (λ k s at j t there other closed. told_at f follow k s at j t there false other closed)
+        (λ k s at j t there own closed. told_at f follow k s at j t there true own closed);
+    exact = spread_exact object events sets now spread can but;
+  }
+
+-- a set's readiness was told
+pub spread_after : (sets now : List OpenSet) (place : ℕ) (s : OpenSet) → slice_get sets place ≡ Some s → AreOnce (map id_of sets) → IsExactBut s.id sets → IsSpread everyone s.id (ready_events (has_ready s)) sets now → IsUpToDate sets now
+spread_after sets now place s here once but spread = record {
+  shape = spread.shape;
+  leaves = λ f follow. spread_leaves s.id (ready_events (has_ready s)) sets now spread can f
+      (λ k t at j u there other closed. follow k t at j u there closed)
+      (λ k t at j u there own closed. absurd (false≢true (sym closed ∙ ap (is_open sets) (equal_ids u.object.serial s.id own) ∙ is_open_at sets place s here)));
+  exact = spread_exact s.id (ready_events (has_ready s)) sets now spread can but;
+}
+  where
+    can : CanHave sets s.id (ready_events (has_ready s))
+    can = subst (λ o. are_of (option_map has_ready o) (ready_events (has_ready s))) (sym (find_once sets place s once here)) refl

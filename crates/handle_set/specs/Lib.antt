@@ -1,8 +1,10 @@
 pub mod Adding
 pub mod Chains
+pub mod Holders
 pub mod Members
 pub mod Rows
 pub mod Sets
 pub mod Slots
 pub mod Spares
+pub mod Spreading
 pub mod Within

@@ -1,8 +1,8 @@
 -- All open sets. A member may be a set itself; the events told for it are then READY where that set has
 -- a ready member, and none otherwise.
-use Rattle.std.specs.Prelude.{◌≡◌, ◌<◌, ◌≤◌, ℕ, Bool, true, false, not, ◌==◌, List, [], ◌∷◌, length, map, drop, Option, Some, None, slice_get, bit_and}
+use Rattle.std.specs.Prelude.{◌≡◌, ◌<◌, ◌≤◌, ℕ, Bool, true, false, not, ◌==◌, List, [], ◌∷◌, map, drop, Option, Some, None, slice_get, bit_and}
 use Rattle.std.specs.List.{list_any, find, filter, position_or_len}
-use Rattle.std.specs.Option.{option_map, IfSome}
+use Rattle.std.specs.Option.{option_map}
 use Rattle.object_store.specs.declared.key.ObjKey.{ObjKey}
 use Rattle.kernel_values.specs.declared.flags.Events.{Events}
 use Rattle.handle_set.specs.declared.records.Told.{Told}
@@ -35,23 +35,6 @@ settled_in sets told = settled_told (ready_in sets told.object.serial) told
 abbrev pub with_members : List Told → OpenSet → OpenSet
 with_members members set = record set { members = members }
 
-abbrev pub with_settled : List OpenSet → OpenSet → OpenSet
-with_settled sets set = with_members (map (settled_in sets) set.members) set
-
--- one set brought up to date
-abbrev pub set_settled : ℕ → List OpenSet → List OpenSet
-set_settled place sets = map_at (with_settled sets) place sets
-
--- one member of a set brought up to date
-abbrev pub with_settled_at : List OpenSet → ℕ → OpenSet → OpenSet
-with_settled_at sets at set = with_members (map_at (settled_in sets) at set.members) set
-
-abbrev pub member_settled : ℕ → ℕ → List OpenSet → List OpenSet
-member_settled place at sets = map_at (with_settled_at sets at) place sets
-
-abbrev pub HasMemberAt : ℕ → ℕ → List OpenSet → Type 0
-HasMemberAt place at sets = IfSome (slice_get sets place) (λ set. at < length set.members)
-
 -- each item of a list
 abbrev pub Each : {X : Type 0} → List X → (X → Type 0) → Type 0
 Each {X} xs P = (k : ℕ) (x : X) → slice_get xs k ≡ Some x → P x
@@ -75,21 +58,6 @@ IsRankedBy rank sets = Each sets (IsRankedIn rank)
 
 abbrev pub IsRanked : List OpenSet → Type 0
 IsRanked sets = (rank : ℕ → ℕ) × IsRankedBy rank sets
-
--- no member of the set at a place is that set
-abbrev pub IsApart : OpenSet → Type 0
-IsApart set = Each set.members (λ told. (told.object.serial == set.id) ≡ false)
-
-abbrev pub IsApartAt : ℕ → List OpenSet → Type 0
-IsApartAt place sets = IfSome (slice_get sets place) IsApart
-
--- the sets up to a rank are exact
-abbrev pub IsExactTo : (ℕ → ℕ) → ℕ → List OpenSet → Type 0
-IsExactTo rank level sets = Each sets (λ set. rank set.id ≤ level → IsExactIn sets set)
-
--- the sets before a place are exact up to a rank
-abbrev pub IsExactBefore : (ℕ → ℕ) → ℕ → ℕ → List OpenSet → Type 0
-IsExactBefore rank level place sets = (k : ℕ) (set : OpenSet) → k < place → slice_get sets k ≡ Some set → rank set.id ≤ level → IsExactIn sets set
 
 -- whether a set of this number is open
 abbrev pub is_open : List OpenSet → ℕ → Bool
@@ -143,9 +111,6 @@ id_of set = set.id
 -- it is known of each member whether its object is an open set
 abbrev pub IsKnown : List OpenSet → Type 0
 IsKnown sets = Each sets (λ set. Each set.members (λ told. told.inner ≡ is_open sets told.object.serial))
-
-abbrev pub IsKnownAt : ℕ → List OpenSet → Type 0
-IsKnownAt place sets = IfSome (slice_get sets place) (λ set. Each set.members (λ told. told.inner ≡ is_open sets told.object.serial))
 
 -- what holds of the open sets between calls: no set is open twice, chains are short, and of each member that is a set, it is
 -- known whether that one is ready

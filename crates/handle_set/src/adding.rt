@@ -1,22 +1,26 @@
 //! A member is added, or refused by the first cause that holds.
 
-ghost use Rattle.std.specs.Prelude.{◌≡◌, ◌<◌, ◌≤◌, true, length, map, find, nat_le, nat_lt, None, slice_get, if◌then◌else◌};
+ghost use Rattle.std.specs.Prelude.{◌≡◌, ◌<◌, ◌≤◌, true, length, map, find, nat_le, nat_lt, None, slice_get, OnOk, OnErr, if◌then◌else◌};
 ghost use Rattle.std.specs.List.{list_any, position_or_len};
 ghost use Rattle.std.specs.Option.{IfSome};
 ghost use Rattle.kernel_types.specs.Events.{chain_limit};
 ghost use Rattle.kernel_types.specs.Sets.{chain_through, depth_above, depth_below, greatest, holders_of, member_limit};
 ghost use Rattle.handle_set.specs.Adding.{add_refusal, members_in, told_as, with_added};
 ghost use Rattle.handle_set.specs.Chains.{objects_in, objects_of};
+ghost use Rattle.handle_set.specs.Holders.{IsHeld, is_holder};
 ghost use Rattle.handle_set.specs.Sets.{CanHave, IsSettled, IsUpToDate, has_id, has_labelled, has_member, is_open};
 ghost use Rattle.handle_set.specs.Within.{is_within};
 
+use crate::holders::register;
 use crate::members;
 use crate::ready_list::ReadyList;
 use crate::records::Told;
-use crate::settle::{OpenSet, is_ready_at, place_of, settle_after};
-use kernel_values::{Events, Handle};
+use crate::settle::{CHAIN_LIMIT, OpenSet, holds, id_at, is_ready_at, place_of, settle_after};
+use kernel_values::{Events, Handle, NoMemory};
 use object_store::ObjKey;
 use set_laws::chains::adding_keeps_chains_short;
+use std::alloc::Global;
+use std::collections::BTreeMap;
 
 /// A member that is to be added to a set.
 #[derive(Clone, Copy, PartialEq, Eq, Debug)]
@@ -43,9 +47,6 @@ pub enum SetRefused {
     /// Out of memory.
     NoMemory,
 }
-
-/// A chain of sets, each a member of the one before, has at most this many.
-const CHAIN_LIMIT: u32 = 8;
 
 /// A set has at most this many members.
 const MEMBER_LIMIT: usize = 64;
@@ -147,22 +148,6 @@ fn depth_through(limit: u32, sets: &[OpenSet], place: usize, object: u64) -> u32
     depth_above(limit, sets, id_at(sets, place))
 }
 
-// Whether the set at a place has the object as a member.
-fn holds(sets: &[OpenSet], place: usize, object: u64) -> bool
-    requires { place < length sets.now }
-    ensures { IfSome (slice_get sets.now place) (λ set. result ≡ has_member object set) }
-{
-    members::has_object(&sets[place].members, object)
-}
-
-// The number of the set at a place.
-fn id_at(sets: &[OpenSet], place: usize) -> u64
-    requires { place < length sets.now }
-    ensures { IfSome (slice_get sets.now place) (λ set. result ≡ set.id) }
-{
-    sets[place].id
-}
-
 // Whether a chain of too many sets would go through a new membership. It does through that of a set alone.
 fn is_too_deep(sets: &[OpenSet], id: u64, object: u64) -> bool
     ensures { result ≡ nat_lt chain_limit (chain_through (objects_of sets.now) id object) }
@@ -250,19 +235,52 @@ fn open_place(sets: &[OpenSet], id: u64) -> usize
     place_of(sets, id)
 }
 
-/// Adds a member that nothing speaks against, with the events of its object.
-pub fn add_in(sets: &mut [OpenSet], id: u64, member: Member, events: Events)
+// Adds a member that nothing speaks against, with the events of its object. The set is at the object.
+fn push_in(
+    holders: &BTreeMap<u64, Vec<u64>>,
+    sets: &mut [OpenSet],
+    id: u64,
+    member: Member,
+    events: Events,
+)
     requires settled { IsSettled sets.old }
+    requires held { IsHeld holders.now sets.old }
+    requires holder { is_holder holders.now member.object.serial id ≡ true }
     requires is_set { is_open sets.old id ≡ true }
     requires none { add_refusal sets.old id member ≡ None }
     requires events { CanHave sets.old member.object.serial events }
     ensures added { IsUpToDate (with_added id member events sets.old) sets.new }
     ensures settled { IsSettled sets.new }
+    ensures held { IsHeld holders.now sets.new }
 {
     adding_keeps_chains_short();
     let place = open_place(sets, id);
     let told = told_as(sets, member, events);
     let was = is_ready_at(sets, place);
     sets[place].members.push(told);
-    settle_after(sets, place, was);
+    settle_after(holders, sets, place, was);
+}
+
+/// Adds a member that nothing speaks against, with the events of its object.
+pub fn add_in(
+    alloc: Global,
+    holders: &mut BTreeMap<u64, Vec<u64>>,
+    sets: &mut [OpenSet],
+    id: u64,
+    member: Member,
+    events: Events,
+) -> Result<(), NoMemory>
+    requires settled { IsSettled sets.old }
+    requires held { IsHeld holders.old sets.old }
+    requires is_set { is_open sets.old id ≡ true }
+    requires none { add_refusal sets.old id member ≡ None }
+    requires events { CanHave sets.old member.object.serial events }
+    ensures added { OnOk result (IsUpToDate (with_added id member events sets.old) sets.new) }
+    ensures same { OnErr result (sets.new ≡ sets.old) }
+    ensures settled { IsSettled sets.new }
+    ensures held { IsHeld holders.new sets.new }
+{
+    register(alloc, holders, member.object.serial, id)?;
+    push_in(holders, sets, id, member, events);
+    Ok(())
 }

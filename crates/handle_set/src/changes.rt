@@ -3,16 +3,21 @@
 
 ghost use Rattle.std.specs.Prelude.{◌≡◌, ◌<◌, ◌≤◌, ◌+◌, ◌-◌, ◌^◌, ◌++◌, ◌∷◌, ℕ, List, Bool, [], true, false, length, map, slice_get, Some, None, Option, find, drop};
 ghost use Rattle.std.specs.Option.{IfSome, IsSome, IfNone, OnSome};
-ghost use Rattle.handle_set.specs.Members.{is_label_in, map_at};
-ghost use Rattle.handle_set.specs.Sets.{CanHave, IsSettled, IsUpToDate, first_object, first_ready, has_id, has_labelled, has_ready, is_member, labelled, members_changed, of_set, remasked_at, reported, set_told, without_label};
+ghost use Rattle.handle_set.specs.Holders.{IsHeld};
+ghost use Rattle.handle_set.specs.Members.{is_label_in};
+ghost use Rattle.handle_set.specs.Sets.{AreOnce, CanHave, IsSettled, IsUpToDate, first_object, first_ready, has_id, has_labelled, id_of, is_member, labelled, members_changed, of_set, remasked_at, reported, set_told, without_label};
 
+use crate::holders::release;
 use crate::members;
 use crate::ready_list::Picked;
 use crate::records::Told;
-use crate::settle::{OpenSet, is_ready_at, place_of, settle, settle_after};
+use crate::settle::{
+    CHAIN_LIMIT, OpenSet, find_place, holds, is_ready_at, place_of, settle_after, spread,
+};
 use crate::steps::Steps;
 use kernel_values::{Events, Handle};
 use object_store::ObjKey;
+use std::collections::BTreeMap;
 use std::sync::ledger::Ledger;
 
 /// Reports the first member of a set that has an event of its mask, and puts it last there.
@@ -24,44 +29,94 @@ pub fn pick_in<L: Ledger>(sets: &mut [OpenSet], id: u64, steps: &mut Steps<L>) -
     ensures looks { steps.new.count ≤ steps.old.count + 2 }
     ensures settled { IsSettled sets.new }
 {
-    let place = place_of(sets, id);
+    let place = find_place(sets, id);
     if sets.len() <= place {
         return None;
     }
     sets[place].members.pick(steps)
 }
 
-/// Takes the member under a label out of a set.
-pub fn del_in(sets: &mut [OpenSet], id: u64, label: Handle) -> Option<ObjKey>
-    requires { IsSettled sets.old }
+// A set that no longer has an object as a member is no longer told of it.
+fn let_go(holders: &mut BTreeMap<u64, Vec<u64>>, sets: &[OpenSet], id: u64, object: u64)
+    requires once { AreOnce (map id_of sets.now) }
+    requires held { IsHeld holders.old sets.now }
+    ensures { IsHeld holders.new sets.now }
+{
+    let place = find_place(sets, id);
+    if place < sets.len() {
+        if holds(sets, place, object) {
+            return;
+        }
+    }
+    release(holders, object, id);
+}
+
+// Takes the member under a label out of a set, and brings all up to date.
+fn take_in(
+    holders: &BTreeMap<u64, Vec<u64>>,
+    sets: &mut [OpenSet],
+    id: u64,
+    label: Handle,
+) -> Option<ObjKey>
+    requires settled { IsSettled sets.old }
+    requires held { IsHeld holders.now sets.old }
     ensures object { result ≡ of_set (labelled label) (find (has_id id) sets.old) }
     ensures members { IsUpToDate (members_changed (without_label label) id sets.old) sets.new }
     ensures settled { IsSettled sets.new }
+    ensures held { IsHeld holders.now sets.new }
 {
-    let place = place_of(sets, id);
+    let place = find_place(sets, id);
     if sets.len() <= place {
         return None;
     }
     let was = is_ready_at(sets, place);
     let object = members::del(&mut sets[place].members, label);
-    settle_after(sets, place, was);
+    settle_after(holders, sets, place, was);
     object
 }
 
+/// Takes the member under a label out of a set.
+pub fn del_in(
+    holders: &mut BTreeMap<u64, Vec<u64>>,
+    sets: &mut [OpenSet],
+    id: u64,
+    label: Handle,
+) -> Option<ObjKey>
+    requires settled { IsSettled sets.old }
+    requires held { IsHeld holders.old sets.old }
+    ensures object { result ≡ of_set (labelled label) (find (has_id id) sets.old) }
+    ensures members { IsUpToDate (members_changed (without_label label) id sets.old) sets.new }
+    ensures settled { IsSettled sets.new }
+    ensures held { IsHeld holders.new sets.new }
+{
+    let object = take_in(holders, sets, id, label)?;
+    let_go(holders, sets, id, object.serial);
+    Some(object)
+}
+
 /// Gives the member under a label another mask and cookie.
-pub fn modify_in(sets: &mut [OpenSet], id: u64, label: Handle, mask: Events, cookie: u64) -> bool
-    requires { IsSettled sets.old }
+pub fn modify_in(
+    holders: &BTreeMap<u64, Vec<u64>>,
+    sets: &mut [OpenSet],
+    id: u64,
+    label: Handle,
+    mask: Events,
+    cookie: u64,
+) -> bool
+    requires settled { IsSettled sets.old }
+    requires held { IsHeld holders.now sets.old }
     ensures there { result ≡ has_labelled label (find (has_id id) sets.old) }
     ensures members { IsUpToDate (members_changed (remasked_at label mask cookie) id sets.old) sets.new }
     ensures settled { IsSettled sets.new }
+    ensures held { IsHeld holders.now sets.new }
 {
-    let place = place_of(sets, id);
+    let place = find_place(sets, id);
     if sets.len() <= place {
         return false;
     }
     let was = is_ready_at(sets, place);
     let there = members::modify(&mut sets[place].members, label, mask, cookie);
-    settle_after(sets, place, was);
+    settle_after(holders, sets, place, was);
     there
 }
 
@@ -76,55 +131,41 @@ pub fn first_in(sets: &[OpenSet], id: u64) -> Option<ObjKey>
     members::first(&sets[place].members)
 }
 
-/// Takes the first member out of a set that is a member of none.
-pub fn drop_first_in(sets: &mut [OpenSet], id: u64)
+// Takes the first member out of a set that is a member of none.
+fn drop_first_in(sets: &mut [OpenSet], id: u64)
     requires settled { IsSettled sets.old }
     requires alone { is_member sets.old id ≡ false }
     ensures members { sets.new ≡ members_changed (drop 1) id sets.old }
     ensures settled { IsSettled sets.new }
 {
-    let place = place_of(sets, id);
+    let place = find_place(sets, id);
     if sets.len() <= place {
         return;
     }
     members::drop_first(&mut sets[place].members);
 }
 
-// The members of an object in one set are told other events. Tells whether the set became ready or no longer
-// is.
-fn tell_at(sets: &mut [OpenSet], place: usize, object: u64, events: Events) -> bool
-    requires { place < length sets.old }
-    ensures told { sets.new ≡ map_at (set_told object events) place sets.old }
-    ensures same { result ≡ false → map has_ready sets.new ≡ map has_ready sets.old }
+/// Takes the first member, which is of this object, out of a set that is a member of none.
+pub fn clear_in(holders: &mut BTreeMap<u64, Vec<u64>>, sets: &mut [OpenSet], id: u64, object: u64)
+    requires settled { IsSettled sets.old }
+    requires held { IsHeld holders.old sets.old }
+    requires alone { is_member sets.old id ≡ false }
+    ensures members { sets.new ≡ members_changed (drop 1) id sets.old }
+    ensures settled { IsSettled sets.new }
+    ensures held { IsHeld holders.new sets.new }
 {
-    let was = is_ready_at(sets, place);
-    members::tell(&mut sets[place].members, object, events);
-    is_ready_at(sets, place) != was
-}
-
-// The same in all sets.
-fn tell_all(sets: &mut [OpenSet], object: u64, events: Events) -> bool
-    ensures told { sets.new ≡ map (set_told object events) sets.old }
-    ensures same { result ≡ false → map has_ready sets.new ≡ map has_ready sets.old }
-{
-    let mut turned = false;
-    for place in 0..sets.len() {
-        if tell_at(sets, place, object, events) {
-            turned = true;
-        }
-    }
-    turned
+    drop_first_in(sets, id);
+    let_go(holders, sets, id, object);
 }
 
 /// The events of an object are told, and all sets above it are brought up to date.
-pub fn tell_in(sets: &mut [OpenSet], object: u64, events: Events)
+pub fn tell_in(holders: &BTreeMap<u64, Vec<u64>>, sets: &mut [OpenSet], object: u64, events: Events)
     requires settled { IsSettled sets.old }
+    requires held { IsHeld holders.now sets.old }
     requires events { CanHave sets.old object events }
     ensures told { IsUpToDate (map (set_told object events) sets.old) sets.new }
     ensures settled { IsSettled sets.new }
+    ensures held { IsHeld holders.now sets.new }
 {
-    if !tell_all(sets, object, events) {
-        return;
-    }
-    settle(sets);
+    spread(CHAIN_LIMIT, holders, sets, object, events);
 }

@@ -4,6 +4,7 @@
 
 pub mod adding;
 pub mod changes;
+pub mod holders;
 pub mod members;
 pub mod ready_list;
 pub mod records;

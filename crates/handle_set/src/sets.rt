@@ -6,13 +6,14 @@ ghost use Rattle.handle_set.specs.Adding.{IsCause, add_refusal, with_added};
 ghost use Rattle.handle_set.specs.Sets.{AreOnce, CanHave, IsSettled, IsUpToDate, cleared, empty_set, first_object, first_ready, has_id, has_labelled, id_of, is_member, is_open, is_other_set, labelled, members_changed, of_set, ready_in, remasked_at, reported, set_told, without_label};
 
 use crate::adding::{Member, SetRefused, add_in, refusal};
-use crate::changes::{del_in, drop_first_in, first_in, modify_in, pick_in, tell_in};
+use crate::changes::{clear_in, del_in, first_in, modify_in, pick_in, tell_in};
 use crate::ready_list::{Picked, ReadyList};
 use crate::settle::{OpenSet, place_of, ready_in};
 use crate::steps::Steps;
 use kernel_values::{Events, Handle, NoMemory};
 use object_store::ObjKey;
 use std::alloc::Global;
+use std::collections::BTreeMap;
 use std::marker::Model;
 use std::sync::ledger::Ledger;
 
@@ -24,6 +25,8 @@ use std::sync::ledger::Ledger;
 #[derive(Drop)]
 pub struct Sets {
     sets: Vec<OpenSet>,
+    // The sets at each object; those that have it as a member are among these.
+    holders: BTreeMap<u64, Vec<u64>>,
     // The members of a set that is yet to be opened.
     spare: Option<ReadyList>,
     alloc: Global,
@@ -32,13 +35,14 @@ pub struct Sets {
 impl Model for Sets {
     ghost use Rattle.std.specs.Prelude.{is_some, vec_len, vec_capacity};
     ghost use Rattle.handle_set.specs.Sets.{IsSettled, Memberships};
+    ghost use Rattle.handle_set.specs.Holders.{IsHeld};
     ghost use Rattle.handle_set.specs.Spares.{IsSpare};
 
     ghost Value = { Memberships };
 
     ghost view = { λ s. record { sets = s.sets.items; spare = is_some s.spare } };
 
-    ghost invariant = { λ s. IsSettled s.sets.items × IsSpare (vec_len s.sets) (vec_capacity s.sets) s.spare };
+    ghost invariant = { λ s. IsSettled s.sets.items × IsSpare (vec_len s.sets) (vec_capacity s.sets) s.spare × IsHeld s.holders s.sets.items };
 }
 
 // Closes an open set.
@@ -62,6 +66,7 @@ impl Sets {
     {
         Sets {
             sets: Vec::new(alloc),
+            holders: BTreeMap::new(alloc),
             spare: None,
             alloc,
         }
@@ -115,7 +120,7 @@ impl Sets {
         ensures told { IsUpToDate (map (set_told object.serial events) self.old.sets) self.new.sets }
         ensures spare { self.new.spare ≡ self.old.spare }
     {
-        tell_in(&mut self.sets, object.serial, events);
+        tell_in(&self.holders, &mut self.sets, object.serial, events);
     }
 
     /// Adds a member, which goes last, with the events that its object has. It is refused by the first cause of
@@ -132,7 +137,11 @@ impl Sets {
         match refusal(&self.sets, set.serial, member) {
             Some(refused) => Err(refused),
             None => {
-                add_in(&mut self.sets, set.serial, member, events);
+                let (alloc, id) = (self.alloc, set.serial);
+                let Ok(()) = add_in(alloc, &mut self.holders, &mut self.sets, id, member, events)
+                else {
+                    return Err(SetRefused::NoMemory);
+                };
                 Ok(())
             }
         }
@@ -145,7 +154,7 @@ impl Sets {
         ensures members { IsUpToDate (members_changed (without_label label) set.serial self.old.sets) self.new.sets }
         ensures spare { self.new.spare ≡ self.old.spare }
     {
-        del_in(&mut self.sets, set.serial, label)
+        del_in(&mut self.holders, &mut self.sets, set.serial, label)
     }
 
     /// Gives the member under a label another mask and cookie; its place stays. False exactly where the set has no
@@ -155,7 +164,14 @@ impl Sets {
         ensures members { IsUpToDate (members_changed (remasked_at label mask cookie) set.serial self.old.sets) self.new.sets }
         ensures spare { self.new.spare ≡ self.old.spare }
     {
-        modify_in(&mut self.sets, set.serial, label, mask, cookie)
+        modify_in(
+            &self.holders,
+            &mut self.sets,
+            set.serial,
+            label,
+            mask,
+            cookie,
+        )
     }
 
     /// Takes the first member out of a set that has ended, and answers its object. A set that has no member is
@@ -166,13 +182,12 @@ impl Sets {
         ensures sets { self.new.sets ≡ cleared set.serial self.old.sets }
         ensures spare { self.new.spare ≡ self.old.spare }
     {
-        let first = first_in(&self.sets, set.serial);
-        if first.is_none() {
+        let Some(first) = first_in(&self.sets, set.serial) else {
             close(&mut self.sets, set.serial);
             return None;
-        }
-        drop_first_in(&mut self.sets, set.serial);
-        first
+        };
+        clear_in(&mut self.holders, &mut self.sets, set.serial, first.serial);
+        Some(first)
     }
 
     /// Reports the first member of a set, in its order, that has an event of its mask. It then goes last. None

@@ -1,15 +1,21 @@
-//! Sets in one another: each knows of a member that is a set whether that one is ready.
+//! Sets in one another: each knows of a member that is a set whether that one is ready. What changes in a set is
+//! told to the sets that have it as a member, and so on upwards; no other set is looked at.
 
-ghost use Rattle.std.specs.Prelude.{◌≡◌, ◌<◌, ◌≤◌, ◌+◌, ℕ, List, Bool, true, false, length, map, slice_get, Some, None, Option};
+ghost use Rattle.std.specs.Prelude.{◌≡◌, ◌<◌, ◌≤◌, ◌+◌, ℕ, List, Bool, true, false, not, length, map, slice_get, Some, None, Option};
 ghost use Rattle.std.specs.List.{list_any, position_or_len};
 ghost use Rattle.std.specs.Option.{IfSome};
+ghost use mathlib.Core.Bool.{beq};
 ghost use Rattle.handle_set.specs.declared.settle.OpenSet.{OpenSet};
-ghost use Rattle.handle_set.specs.Members.{is_inner};
-ghost use Rattle.handle_set.specs.Sets.{ready_in, ready_events, member_settled, set_settled, HasMemberAt, IsApartAt, IsKnownAt, IsRankedBy, IsRanked, IsExactTo, IsExact, IsKnown, IsUpToDate, shape, LeavesFollow, Follows, IsOfSets, has_id, has_ready};
+ghost use Rattle.handle_set.specs.Holders.{IsHeld};
+ghost use Rattle.handle_set.specs.Members.{map_at};
+ghost use Rattle.handle_set.specs.Sets.{AreOnce, Follows, IsExact, IsOfSets, IsRanked, IsRankedBy, IsUpToDate, LeavesFollow, has_id, has_member, has_ready, id_of, ready_events, ready_in, set_told};
+ghost use Rattle.handle_set.specs.Spreading.{IsExactBut, IsInReach, IsSpread, everyone, is_one};
 
+use crate::holders::holders_of;
 use crate::members;
 use crate::ready_list::ReadyList;
 use kernel_values::Events;
+use std::collections::BTreeMap;
 
 /// An open set with its members.
 #[derive(Drop)]
@@ -17,6 +23,9 @@ pub struct OpenSet {
     pub id: u64,
     pub members: ReadyList,
 }
+
+/// A chain of sets, each a member of the one before, has at most this many.
+pub const CHAIN_LIMIT: u32 = 8;
 
 /// The place of the set; past the end where no set of this number is open.
 pub fn place_of(sets: &[OpenSet], id: u64) -> usize
@@ -28,6 +37,46 @@ pub fn place_of(sets: &[OpenSet], id: u64) -> usize
         }
     }
     sets.len()
+}
+
+/// The number of the set at a place.
+pub fn id_at(sets: &[OpenSet], place: usize) -> u64
+    requires { place < length sets.now }
+    ensures { IfSome (slice_get sets.now place) (λ set. result ≡ set.id) }
+{
+    sets[place].id
+}
+
+// The place of the first set with no smaller number, where the numbers rise.
+fn place_in_order(sets: &[OpenSet], id: u64) -> usize
+    ensures { result ≤ length sets.now }
+{
+    let mut low = 0;
+    let mut high = sets.len();
+    while low < high {
+        let middle = low + (high - low) / 2;
+        if sets[middle].id < id {
+            low = middle + 1;
+        } else {
+            high = middle;
+        }
+    }
+    low
+}
+
+/// The place of the set, as `place_of`. Numbers of objects rise, so sets are mostly opened in their order; the set
+/// is then found in a few steps.
+pub fn find_place(sets: &[OpenSet], id: u64) -> usize
+    requires { AreOnce (map id_of sets.now) }
+    ensures { result ≡ position_or_len (has_id id) sets.now }
+{
+    let place = place_in_order(sets, id);
+    if place < sets.len() {
+        if id_at(sets, place) == id {
+            return place;
+        }
+    }
+    place_of(sets, id)
 }
 
 /// Whether a member of the open set has an event of its mask; None where no set of this number is open.
@@ -49,90 +98,6 @@ pub fn ready_events(ready: bool) -> Events
     if ready { Events(1) } else { Events(0) }
 }
 
-// The events told for the member at a place become those of its object, where that is an open set. Tells
-// whether they were others.
-fn settle_member(sets: &mut [OpenSet], place: usize, at: usize) -> bool
-    requires within { place < length sets.old }
-    requires member { HasMemberAt place at sets.old }
-    ensures settled { sets.new ≡ member_settled place at sets.old }
-    ensures same { result ≡ false → sets.new ≡ sets.old }
-{
-    let told = members::member(&sets[place].members, at);
-    match ready_in(sets, told.object.serial) {
-        Some(ready) => {
-            if told.events.0 == ready_events(ready).0 {
-                return false;
-            }
-            members::set_events(&mut sets[place].members, at, ready_events(ready));
-            true
-        }
-        None => false,
-    }
-}
-
-// Whether the object of a member of the set at a place is an open set.
-fn holds_sets(sets: &[OpenSet], place: usize) -> bool
-    requires { place < length sets.now }
-    ensures { IfSome (slice_get sets.now place) (λ set. result ≡ list_any is_inner set.members) }
-{
-    sets[place].members.has_inner()
-}
-
-// The events told for the members of one set are those of their objects, where these are open sets. A set
-// that has no sets as members is not looked through.
-fn settle_set(sets: &mut [OpenSet], place: usize) -> bool
-    requires within { place < length sets.old }
-    requires apart { IsApartAt place sets.old }
-    requires known { IsKnownAt place sets.old }
-    ensures settled { sets.new ≡ set_settled place sets.old }
-    ensures same { result ≡ false → sets.new ≡ sets.old }
-{
-    if !holds_sets(sets, place) {
-        return false;
-    }
-    let mut moved = false;
-    for at in 0..sets[place].members.len() {
-        if settle_member(sets, place, at) {
-            moved = true;
-        }
-    }
-    moved
-}
-
-// Each set once. Where all sets up to a rank were exact, those of the next rank are too. Where nothing
-// moved, all are.
-fn settle_once(sets: &mut [OpenSet]) -> bool
-    requires ranked { IsRanked sets.old }
-    requires known { IsKnown sets.old }
-    ensures shape { shape sets.new ≡ shape sets.old }
-    ensures leaves { (events : ℕ → ℕ) → LeavesFollow events sets.old → LeavesFollow events sets.new }
-    ensures ranked { (rank : ℕ → ℕ) → IsRankedBy rank sets.old → IsRankedBy rank sets.new }
-    ensures exact { (rank : ℕ → ℕ) (level : ℕ) → IsRankedBy rank sets.old → IsExactTo rank level sets.old → IsExactTo rank (level + 1) sets.new }
-    ensures rest { result ≡ false → IsExact sets.new }
-{
-    let mut moved = false;
-    for place in 0..sets.len() {
-        if settle_set(sets, place) {
-            moved = true;
-        }
-    }
-    moved
-}
-
-/// Every set is brought up to date: no chain has more than 8 sets, so 8 rounds are enough.
-pub fn settle(sets: &mut [OpenSet])
-    requires ranked { IsRanked sets.old }
-    requires known { IsKnown sets.old }
-    ensures settled { IsUpToDate sets.old sets.new }
-    ensures ranked { (rank : ℕ → ℕ) → IsRankedBy rank sets.old → IsRankedBy rank sets.new }
-{
-    for _level in 0..8u32 {
-        if !settle_once(sets) {
-            return;
-        }
-    }
-}
-
 /// Whether the set at a place has a ready member.
 pub fn is_ready_at(sets: &[OpenSet], place: usize) -> bool
     requires { place < length sets.now }
@@ -141,20 +106,100 @@ pub fn is_ready_at(sets: &[OpenSet], place: usize) -> bool
     sets[place].members.is_ready()
 }
 
-/// The same after a change of one set's members. Where the set is as ready as it was, nothing is to be
-/// done.
-pub fn settle_after(sets: &mut [OpenSet], place: usize, was: bool)
-    requires within { place < length sets.old }
-    requires ranked { IsRanked sets.old }
-    requires known { IsKnown sets.old }
-    requires others { IfSome (slice_get sets.old place) (λ set. has_ready set ≡ was → IsExact sets.old) }
-    ensures settled { IsUpToDate sets.old sets.new }
-    ensures ranked { (rank : ℕ → ℕ) → IsRankedBy rank sets.old → IsRankedBy rank sets.new }
+/// Whether the set at a place has the object as a member.
+pub fn holds(sets: &[OpenSet], place: usize, object: u64) -> bool
+    requires { place < length sets.now }
+    ensures { IfSome (slice_get sets.now place) (λ set. result ≡ has_member object set) }
 {
-    if is_ready_at(sets, place) == was {
+    members::has_object(&sets[place].members, object)
+}
+
+// The members of an object in one set are told other events. Tells whether the set became ready or no longer
+// is.
+fn tell_at(sets: &mut [OpenSet], place: usize, object: u64, events: Events) -> bool
+    requires { place < length sets.old }
+    ensures told { sets.new ≡ map_at (set_told object events) place sets.old }
+    ensures turned { IfSome (slice_get sets.old place) (λ set. result ≡ not (beq (has_ready (set_told object events set)) (has_ready set))) }
+{
+    let was = is_ready_at(sets, place);
+    members::tell(&mut sets[place].members, object, events);
+    is_ready_at(sets, place) != was
+}
+
+/// The members of an object are told its events, in each set that has it; and where that set became ready or no
+/// longer is, so are the members of the set, and so on upwards.
+#[cycle(spread)]
+pub fn spread(
+    steps: u32,
+    holders: &BTreeMap<u64, Vec<u64>>,
+    sets: &mut [OpenSet],
+    object: u64,
+    events: Events,
+)
+    requires once { AreOnce (map id_of sets.old) }
+    requires held { IsHeld holders.now sets.old }
+    requires reach { IsInReach steps object sets.old }
+    ensures { IsSpread everyone object events sets.old sets.new }
+{
+    let ids = holders_of(holders, object);
+    for id in ids {
+        spread_to(steps, holders, sets, *id, object, events);
+    }
+}
+
+// The same to one set.
+#[cycle(spread)]
+fn spread_to(
+    steps: u32,
+    holders: &BTreeMap<u64, Vec<u64>>,
+    sets: &mut [OpenSet],
+    id: u64,
+    object: u64,
+    events: Events,
+)
+    requires once { AreOnce (map id_of sets.old) }
+    requires held { IsHeld holders.now sets.old }
+    requires reach { IsInReach steps object sets.old }
+    ensures { IsSpread (is_one id) object events sets.old sets.new }
+{
+    let place = find_place(sets, id);
+    if sets.len() <= place {
         return;
     }
-    settle(sets);
+    if !tell_at(sets, place, object, events) {
+        return;
+    }
+    if steps == 0 {
+        return;
+    }
+    let ready = is_ready_at(sets, place);
+    spread(steps - 1, holders, sets, id, ready_events(ready));
+}
+
+/// Brings all sets up to date after a change of one set's members. Where the set is as ready as it was, nothing is
+/// to be done.
+pub fn settle_after(
+    holders: &BTreeMap<u64, Vec<u64>>,
+    sets: &mut [OpenSet],
+    place: usize,
+    was: bool,
+)
+    requires within { place < length sets.old }
+    requires once { AreOnce (map id_of sets.old) }
+    requires held { IsHeld holders.now sets.old }
+    requires ranked { IsRanked sets.old }
+    requires others { IfSome (slice_get sets.old place) (λ set. has_ready set ≡ was → IsExact sets.old) }
+    requires rest { IfSome (slice_get sets.old place) (λ set. IsExactBut set.id sets.old) }
+    ensures settled { IsUpToDate sets.old sets.new }
+    ensures held { IsHeld holders.now sets.new }
+    ensures ranked { (rank : ℕ → ℕ) → IsRankedBy rank sets.old → IsRankedBy rank sets.new }
+{
+    let ready = is_ready_at(sets, place);
+    if ready == was {
+        return;
+    }
+    let id = id_at(sets, place);
+    spread(CHAIN_LIMIT, holders, sets, id, ready_events(ready));
 }
 
 /// Where all sets are exact, what is told for members that are no open sets fixes the rest: all told

@@ -22,22 +22,22 @@ module _ (sets : List OpenSet) (id place : ℕ) (s : OpenSet) (place_is : place 
   settled members is was = subst IsSettled (sym (written members is)) (fewer_settled reported sets place s here picking_fewer was (any_pick s.members))
 
 pub returns-then-sets-place-clause-picked : goal.returns-then-sets-place-clause-picked
-returns-then-sets-place-clause-picked g c = ap (of_set first_ready) (sym (past reported c.args.sets.now c.args.id c.place_of-place.result c.place_of-place.ensures c.if-sets-place.true))
+returns-then-sets-place-clause-picked g c = ap (of_set first_ready) (sym (past reported c.args.sets.now c.args.id c.find_place-place.result c.find_place-place.ensures c.if-sets-place.true))
 
 pub returns-then-sets-place-clause-members : goal.returns-then-sets-place-clause-members
-returns-then-sets-place-clause-members g c = sym (unchanged reported c.args.sets.now c.args.id c.place_of-place.result c.place_of-place.ensures c.if-sets-place.true)
+returns-then-sets-place-clause-members g c = sym (unchanged reported c.args.sets.now c.args.id c.find_place-place.result c.find_place-place.ensures c.if-sets-place.true)
 
 pub returns-clause-picked : goal.returns-clause-picked
 returns-clause-picked g c =
-    let at = here c.args.sets.now c.args.id c.place_of-place.result c.index-sets-place.result c.place_of-place.ensures c.if-sets-place.false c.index-sets-place.is in
+    let at = here c.args.sets.now c.args.id c.find_place-place.result c.index-sets-place.result c.find_place-place.ensures c.if-sets-place.false c.index-sets-place.is in
     c.pick.ensures.picked
     ∙ ap (λ (x : OpenSet). first_ready x.members) (sym c.index-sets-place.is)
-    ∙ ap (of_set first_ready) (sym (found reported c.args.sets.now c.args.id c.place_of-place.result c.place_of-place.ensures c.index-sets-place.result at))
+    ∙ ap (of_set first_ready) (sym (found reported c.args.sets.now c.args.id c.find_place-place.result c.find_place-place.ensures c.index-sets-place.result at))
 
 pub returns-clause-members : goal.returns-clause-members
 returns-clause-members g c =
-    whole c.args.sets.now c.args.id c.place_of-place.result c.index-sets-place.result c.place_of-place.ensures c.if-sets-place.false c.index-sets-place.is _ (c.pick.ensures.members ∙ ap (λ (x : OpenSet). reported x.members) (sym c.index-sets-place.is))
+    whole c.args.sets.now c.args.id c.find_place-place.result c.index-sets-place.result c.find_place-place.ensures c.if-sets-place.false c.index-sets-place.is _ (c.pick.ensures.members ∙ ap (λ (x : OpenSet). reported x.members) (sym c.index-sets-place.is))
 
 pub returns-clause-settled : goal.returns-clause-settled
 returns-clause-settled g c =
-    settled c.args.sets.now c.args.id c.place_of-place.result c.index-sets-place.result c.place_of-place.ensures c.if-sets-place.false c.index-sets-place.is _ (c.pick.ensures.members ∙ ap (λ (x : OpenSet). reported x.members) (sym c.index-sets-place.is)) c.requires.settled
+    settled c.args.sets.now c.args.id c.find_place-place.result c.index-sets-place.result c.find_place-place.ensures c.if-sets-place.false c.index-sets-place.is _ (c.pick.ensures.members ∙ ap (λ (x : OpenSet). reported x.members) (sym c.index-sets-place.is)) c.requires.settled

@@ -1,23 +1,16 @@
-use Rattle.std.proofs.Common.{subst}
-use Rattle.handle_set.specs.Sets.{IsUpToDate}
-use Rattle.handle_set.proofs.Levels.{told_ranked}
-use Rattle.handle_set.proofs.Telling.{told_known, told_settled, told_rests}
+use Rattle.std.proofs.Common.{arith}
+use Rattle.handle_set.proofs.Spreading.{same_held}
+use Rattle.handle_set.proofs.Telling.{spread_told, told_settled}
 use Rattle.handle_set.proofs.changes.tell_in.Goals as goal
 
-pub settle-requires-clause-ranked : goal.settle-requires-clause-ranked
-settle-requires-clause-ranked c = rw c.tell_all.ensures.told (c.requires.settled.ranked.0, told_ranked c.args.object c.args.events c.requires.settled.ranked.0 c.args.sets.now c.requires.settled.ranked.1)
-
-pub settle-requires-clause-known : goal.settle-requires-clause-known
-settle-requires-clause-known c = rw c.tell_all.ensures.told (told_known c.args.object c.args.events c.args.sets.now c.requires.settled.known)
-
-pub returns-then-not-tell_all-clause-told : goal.returns-then-not-tell_all-clause-told
-returns-then-not-tell_all-clause-told c = told_rests c.args.object c.args.events c.args.sets.now c.tell_all.new.sets c.requires.settled c.requires.events c.tell_all.ensures.told (c.tell_all.ensures.same c.if-not-tell_all.true)
-
-pub returns-then-not-tell_all-clause-settled : goal.returns-then-not-tell_all-clause-settled
-returns-then-not-tell_all-clause-settled c = told_settled c.args.object c.args.events c.args.sets.now c.tell_all.new.sets c.requires.settled (told_rests c.args.object c.args.events c.args.sets.now c.tell_all.new.sets c.requires.settled c.requires.events c.tell_all.ensures.told (c.tell_all.ensures.same c.if-not-tell_all.true))
+pub spread-requires-clause-reach : goal.spread-requires-clause-reach
+spread-requires-clause-reach c = (c.requires.settled.ranked.0, c.requires.settled.ranked.1, omega arith)
 
 pub returns-clause-told : goal.returns-clause-told
-returns-clause-told c = subst (λ xs. IsUpToDate xs c.settle.new.sets) c.tell_all.ensures.told c.settle.ensures.settled
+returns-clause-told c = spread_told c.args.object c.args.events c.args.sets.now c.spread.new.sets c.requires.settled c.requires.events c.spread.ensures
 
 pub returns-clause-settled : goal.returns-clause-settled
-returns-clause-settled c = told_settled c.args.object c.args.events c.args.sets.now c.settle.new.sets c.requires.settled (subst (λ xs. IsUpToDate xs c.settle.new.sets) c.tell_all.ensures.told c.settle.ensures.settled)
+returns-clause-settled c = told_settled c.args.object c.args.events c.args.sets.now c.spread.new.sets c.requires.settled (spread_told c.args.object c.args.events c.args.sets.now c.spread.new.sets c.requires.settled c.requires.events c.spread.ensures)
+
+pub returns-clause-held : goal.returns-clause-held
+returns-clause-held c = same_held c.args.holders.now c.spread.new.sets c.args.sets.now c.spread.ensures.shape c.requires.held

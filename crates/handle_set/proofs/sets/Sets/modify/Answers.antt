@@ -7,7 +7,7 @@ use Rattle.handle_set.proofs.sets.Sets.modify.Goals as goal
 pub invariant_of-self : goal.invariant_of-self
 invariant_of-self c =
     let long : length c.modify_in.new.sets ≡ c.self.inside.sets.len = omega (arith, c.deref_mut.ensures.len, c.modify_in.auto.sets) in
-    rw (take_at c.modify_in.new.sets (drop (length c.modify_in.new.sets) c.self.inside.sets.items) c.self.inside.sets.len long) (c.modify_in.ensures.settled, c.self.invariant.1)
+    rw (take_at c.modify_in.new.sets (drop (length c.modify_in.new.sets) c.self.inside.sets.items) c.self.inside.sets.len long) (c.modify_in.ensures.settled, c.self.invariant.1, c.modify_in.ensures.held)
 
 pub returns-clause-members : goal.returns-clause-members
 returns-clause-members c =

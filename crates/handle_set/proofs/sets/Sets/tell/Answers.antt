@@ -7,7 +7,7 @@ use Rattle.handle_set.proofs.sets.Sets.tell.Goals as goal
 pub invariant_of-self : goal.invariant_of-self
 invariant_of-self c =
     let long : length c.tell_in.new.sets ≡ c.self.inside.sets.len = omega (arith, c.deref_mut.ensures.len, c.tell_in.auto.sets) in
-    rw (take_at c.tell_in.new.sets (drop (length c.tell_in.new.sets) c.self.inside.sets.items) c.self.inside.sets.len long) (c.tell_in.ensures.settled, c.self.invariant.1)
+    rw (take_at c.tell_in.new.sets (drop (length c.tell_in.new.sets) c.self.inside.sets.items) c.self.inside.sets.len long) (c.tell_in.ensures.settled, c.self.invariant.1, c.tell_in.ensures.held)
 
 pub returns-clause-told : goal.returns-clause-told
 returns-clause-told c =

@@ -1,7 +1,7 @@
 use Rattle.std.proofs.Common.{sym, ap}
 use Rattle.handle_set.specs.declared.settle.OpenSet.{OpenSet}
 use Rattle.handle_set.proofs.Places.{got}
-use Rattle.handle_set.proofs.adding.id_at.Goals as goal
+use Rattle.handle_set.proofs.settle.id_at.Goals as goal
 
 pub returns : goal.returns
 returns c =

@@ -2,7 +2,7 @@ use Rattle.std.proofs.Common.{◌∙◌, sym, ap}
 use Rattle.handle_set.specs.declared.settle.OpenSet.{OpenSet}
 use Rattle.handle_set.specs.Sets.{has_member}
 use Rattle.handle_set.proofs.Places.{got}
-use Rattle.handle_set.proofs.adding.holds.Goals as goal
+use Rattle.handle_set.proofs.settle.holds.Goals as goal
 
 pub returns : goal.returns
 returns c =
