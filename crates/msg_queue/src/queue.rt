@@ -1,6 +1,7 @@
 //! The queue of one end.
 
-ghost use Rattle.std.specs.Prelude.{◌≡◌, ◌≤◌, ◌<◌, ◌+◌, ◌-◌, ◌^◌, [], length, Some, None, option_map, count_by, IfOk, OnOk, OnErr};
+ghost use Rattle.std.specs.Prelude.{◌≡◌, ◌≤◌, ◌<◌, ◌+◌, ◌-◌, ◌^◌, [], length, Some, None, option_map, option_copied, slice_get, nat_le, count_by, IfOk, IfNone, OnOk, OnErr};
+ghost use Rattle.std.specs.List.{list_any};
 ghost use Rattle.msg_queue.specs.Messages.{Queued, is_filled, first_filled, opened_at, free_id, pushed, with_opened, opened_answer, without_opened, retired_answer, read_count, read_out, length_of, parts_of};
 
 use crate::place::{Place, filled_count, filled_place, least_free_id, opened_place};
@@ -82,6 +83,19 @@ impl Queue {
         })
     }
 
+    /// A queue without slots, which is always full. Nothing is allocated.
+    pub fn without_slots(alloc: Global) -> Queue
+        ensures { result ≡ record { slots = 0; size = 0; next = 0; messages = [] } }
+    {
+        Queue {
+            slots: 0,
+            size: 0,
+            next: 0,
+            messages: Vec::new(alloc),
+            spare: Vec::new(alloc),
+        }
+    }
+
     /// Takes in a message and tells its sequence number. The queue is full exactly where its messages,
     /// filled or opened, are as many as its slots.
     pub fn push(&mut self, bytes: &[u8], parts: &Parts) -> Result<u32, Full>
@@ -107,6 +121,7 @@ impl Queue {
     pub fn open_next(&mut self) -> Option<Opened>
         ensures opened { result ≡ option_map (opened_answer (free_id self.old.messages)) (first_filled self.old.messages) }
         ensures messages { self.new ≡ record self.old { messages = with_opened self.old.messages } }
+        ensures same { IfNone result (self.new ≡ self.old) }
     {
         let Some(at) = filled_place(&self.messages) else {
             return None;
@@ -166,6 +181,7 @@ impl Queue {
     pub fn retire(&mut self, id: u32) -> Option<Retired>
         ensures retired { result ≡ option_map retired_answer (opened_at self.old.messages id) }
         ensures messages { self.new ≡ record self.old { messages = without_opened id self.old.messages } }
+        ensures same { IfNone result (self.new ≡ self.old) }
     {
         let Some(at) = opened_place(&self.messages, id) else {
             return None;
@@ -177,6 +193,34 @@ impl Queue {
         };
         self.spare.push_reserved(place);
         Some(retired)
+    }
+
+    /// The keys of the message at a place, filled or opened, counted from 0 in the order in which they were
+    /// sent.
+    pub fn parts_at(&self, at: usize) -> Option<&Parts>
+        ensures { option_copied result ≡ option_map parts_of (slice_get self.now.messages at) }
+    {
+        match self.messages.get(at) {
+            Some(place) => Some(&place.parts),
+            None => None,
+        }
+    }
+
+    /// Whether all slots are in use.
+    pub fn is_full(&self) -> bool
+        ensures { result ≡ nat_le self.now.slots (length self.now.messages) }
+    {
+        self.slots as usize <= self.messages.len()
+    }
+
+    /// Whether a message is filled.
+    pub fn has_filled(&self) -> bool
+        ensures { result ≡ list_any is_filled self.now.messages }
+    {
+        match filled_place(&self.messages) {
+            Some(_at) => true,
+            None => false,
+        }
     }
 
     /// How many messages are filled.

@@ -2,3 +2,4 @@ pub mod Found
 pub mod Slots
 pub mod Changes
 pub mod Stock
+pub mod Dead

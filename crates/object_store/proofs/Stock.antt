@@ -7,7 +7,7 @@ use Rattle.std.proofs.lemmas.List.Sums.{sum_by-set, sum_by-append, sum_by-cons}
 use Rattle.std.specs.List.{range_with_len, cons_option}
 use Rattle.std.specs.Option.{option_to_list, option_map, option_and_then, IfSome, IfNone}
 use Rattle.slab.specs.Slab.{Slab, get, Updates, slab_len, with_value as with_slot}
-use Rattle.object_store.specs.Stock.{Held, held_at, total_names, names_of, changed, one_less, unnamed, value_at, value_of, last_at, last_named, IsSoundFrom}
+use Rattle.object_store.specs.Stock.{Held, held_at, total_names, names_of, changed, one_less, unnamed, value_at, value_of, last_named, IsSoundFrom}
 use Rattle.object_store.specs.Slots.{at_serial, is_at, listed, IsApart, IsStock}
 use Rattle.object_store.proofs.Found.{found_same, found_more, weight, weight-le-sum, sum_changed, length_changed}
 use Rattle.object_store.proofs.Slots.{is_at_held, not_at, found_by_slot, none_from_slots, keyed, slot_of_found}
@@ -178,6 +178,13 @@ module _ {T : Type 0} where
               let names = there.2 in
               (omega arith, under, named, subst P (sym names) later)
 
+  -- the value that goes with its last name
+  pub last_of : (h : Held T) → h.names ≡ 1 → option_and_then last_named (Some h) ≡ Some h.value
+  last_of h one = let last : (h.names == 1) ≡ true = grind (arith, nat_tests) in rw last refl
+
+  pub not_last_of : (h : Held T) → h.names ≢ 1 → option_and_then last_named (Some h) ≡ None
+  not_last_of h more = let last : (h.names == 1) ≡ false = grind (arith, nat_tests) in rw last refl
+
   -- the store found the slot of a number
   module _ (s : Slab (Held T)) (next total slot n : ℕ) (stock : IsStock s next total) (at : is_at s slot n ≡ true) where
     pub some_found : is_some (held_at (listed s next) n) ≡ true
@@ -186,21 +193,11 @@ module _ {T : Type 0} where
         ap is_some (held_listed s next n stock.slots ∙ sym (found_here s next slot n stock.slots at) ∙ there.1)
 
     module _ (h : Held T) (was : get s slot ≡ Some h) where
-      held_here : held_at (listed s next) n ≡ Some h
+      pub held_here : held_at (listed s next) n ≡ Some h
       held_here = held_listed s next n stock.slots ∙ sym (found_here s next slot n stock.slots at) ∙ was
 
       pub value_here : value_at (listed s next) n ≡ Some h.value
       value_here = ap (option_map value_of) held_here
-
-      pub last_here : h.names ≡ 1 → last_at (listed s next) n ≡ Some h.value
-      last_here one =
-          let last : (h.names == 1) ≡ true = grind (arith, nat_tests) in
-          ap (option_and_then last_named) held_here ∙ rw last refl
-
-      pub not_last_here : h.names ≢ 1 → last_at (listed s next) n ≡ None
-      not_last_here more =
-          let last : (h.names == 1) ≡ false = grind (arith, nat_tests) in
-          ap (option_and_then last_named) held_here ∙ rw last refl
 
       -- it is taken out
       pub gone_here : (new : Slab (Held T)) → h.names ≡ 1 → Updates s new slot None → listed new next ≡ unnamed (listed s next) n
@@ -225,6 +222,6 @@ pub some_since : (r : Option ℕ) (P : Type 0) → IfNone r P → (P → ⊥) �
 some_since None P h never = absurd (never h)
 some_since (Some x) P h never = refl
 
-pub since_some : (r : Option ℕ) (P : ℕ → Type 0) (x : ℕ) → r ≡ Some x → IfSome r P → P x
+pub since_some : {X : Type 0} (r : Option X) (P : X → Type 0) (x : X) → r ≡ Some x → IfSome r P → P x
 since_some None P x is h = absurd (cc)
 since_some (Some y) P x is h = let same : y ≡ x = cc in subst P same h

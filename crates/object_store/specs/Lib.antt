@@ -2,3 +2,4 @@ pub mod Stock
 pub mod Slots
 pub mod Lending
 pub mod Keys
+pub mod SlotLending

@@ -1,6 +1,6 @@
 -- What a contract sees of a store: the values that are there, in order of serial number, each with
 -- its number of names. A value that is not there has no names.
-use Rattle.std.specs.Prelude.{ℕ, ◌+◌, ◌-◌, ◌<◌, ◌≤◌, ◌==◌, Bool, List, ◌∷◌, Option, Some, None, option_map, find, map, filter_map, sum_by, refl, if◌then◌else◌, []}
+use Rattle.std.specs.Prelude.{◌≢◌, ℕ, ◌+◌, ◌-◌, ◌<◌, ◌≤◌, ◌==◌, Bool, List, ◌∷◌, Option, Some, None, option_map, find, map, filter_map, sum_by, refl, if◌then◌else◌, []}
 use Rattle.std.specs.Option.{option_map_or, option_and_then}
 use Rattle.std.specs.Coded.{Coded, code_by, coded×, coded_ℕ, coded_list}
 
@@ -95,6 +95,10 @@ module _ {T : Type 0} where
 
   abbrev pub last_at : List (Held T) → ℕ → Option T
   last_at items serial = option_and_then last_named (held_at items serial)
+
+  -- no value has just one name
+  abbrev pub NoneDead : List (Held T) → Type 0
+  NoneDead items = (serial : ℕ) → names_at items serial ≢ 1
 
   -- from `low` on the serial numbers rise, all below `next`, and each value has a name
   abbrev pub IsSoundFrom : ℕ → List (Held T) → ℕ → Type 0

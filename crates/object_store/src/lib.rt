@@ -3,6 +3,7 @@
 //! given once.
 #![tactic(auto)]
 
+mod kept;
 pub mod key;
 pub mod parts;
 pub mod store;

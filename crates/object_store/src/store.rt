@@ -2,14 +2,13 @@
 
 ghost use Rattle.std.specs.Prelude.{◌≡◌, ◌<◌, ◌≤◌, ◌+◌, ◌-◌, ◌++◌, ◌∷◌, ◌^◌, ℕ, [], length, true, false, Some, None, is_some, IsOk, IsSome, IfOk, IfErr, IfSome, IfNone, OnOk, OnErr, option_copied};
 ghost use Rattle.std.specs.Option.{option_copied_mut, option_to_list};
-ghost use Rattle.std.specs.Borrow.{Lends, sem};
-ghost use Rattle.slab.specs.Slab.{get, slab_len};
+ghost use Rattle.std.specs.Borrow.{sem};
 ghost use Rattle.object_store.specs.Slots.{is_at};
-ghost use Rattle.object_store.specs.Stock.{Held, new_held, held_at, value_at, names_at, total_names, changed, one_more, one_fewer, unnamed, last_at, IsSoundFrom};
+ghost use Rattle.object_store.specs.Stock.{new_held, held_at, value_at, names_at, total_names, changed, one_more, unnamed, last_at, NoneDead, IsSoundFrom};
 
+use crate::kept::{Kept, KeptSlots};
 use crate::key::ObjKey;
 use kernel_values::NoMemory;
-use slab::Slab;
 use std::alloc::Global;
 use std::marker::Model;
 
@@ -20,76 +19,13 @@ pub struct PutRefused<T> {
     pub value: T,
 }
 
-/// A value in its slot.
-#[derive(Drop)]
-struct Kept<T> {
-    serial: u64,
-    names: u64,
-    value: T,
-}
-
-impl<T> Model for Kept<T> {
-    ghost use Rattle.object_store.specs.Slots.{is_at};
-    ghost use Rattle.object_store.specs.Stock.{Held, held_code};
-
-    ghost Value = { Held T };
-
-    ghost coded = { held_code T.code };
-
-    ghost view = { λ k. record { serial = k.serial; names = k.names; value = k.value } };
-}
-
-impl<T> Kept<T> {
-    ghost use Rattle.object_store.specs.Stock.{with_value};
-    ghost use Rattle.object_store.specs.contracts.store.Kept.{the_row};
-
-    fn value(&self) -> &T
-        ensures { result.now ≡ self.now.value }
-    {
-        &self.value
-    }
-
-    fn value_mut(&mut self) -> &mut T
-        ensures* lends { sem 𝓛 (Lends (the_row T.row) T.row self.entry result (λ x. with_value x self.entry.now)) }
-        ensures value { result.now ≡ self.old.value }
-    {
-        &mut self.value
-    }
-
-    fn add_name(&mut self)
-        requires { self.old.names < 2 ^ 64 - 1 }
-        ensures { self.new ≡ one_more self.old }
-    {
-        self.names += 1;
-    }
-
-    fn drop_name(&mut self)
-        requires { 0 < self.old.names }
-        ensures { self.new ≡ one_fewer self.old }
-    {
-        self.names -= 1;
-    }
-
-    fn serial(&self) -> u64
-        ensures { result ≡ self.now.serial }
-    {
-        self.serial
-    }
-
-    fn names(&self) -> u64
-        ensures { result ≡ self.now.names }
-    {
-        self.names
-    }
-}
-
 /// Values with their numbers of names. Contracts see the values in order of serial number, the next
 /// serial number, and how many values fit with no allocation.
 ///
 /// A key whose value is gone finds nothing, and no call changes anything for it.
 #[derive(Drop)]
 pub struct Store<T> {
-    slab: Slab<Kept<T>>,
+    slab: KeptSlots<T>,
     next: u64,
     total: u64,
 }
@@ -114,7 +50,7 @@ impl<T> Model for Store<T> {
 }
 
 // Whether the slot holds the value with the serial number.
-fn stands_at<T>(slab: &Slab<Kept<T>>, slot: usize, serial: u64) -> bool
+fn stands_at<T>(slab: &KeptSlots<T>, slot: usize, serial: u64) -> bool
     ensures { result ≡ is_at slab.now slot serial }
 {
     match slab.get(slot) {
@@ -125,14 +61,14 @@ fn stands_at<T>(slab: &Slab<Kept<T>>, slot: usize, serial: u64) -> bool
 
 // The slot of the value with the key's serial number, if it is there: the key's own slot, or else
 // any other.
-fn slot_of<T>(slab: &Slab<Kept<T>>, key: ObjKey) -> Option<usize>
+fn slot_of<T>(slab: &KeptSlots<T>, key: ObjKey) -> Option<usize>
     ensures found { IfSome result (λ slot. is_at slab.now slot key.serial ≡ true) }
     ensures absent { IfNone result ((slot : ℕ) → is_at slab.now slot key.serial ≡ false) }
 {
     if stands_at(slab, key.slot, key.serial) {
         return Some(key.slot);
     }
-    for slot in 0..slab.capacity() {
+    for slot in 0..slab.bound() {
         if stands_at(slab, slot, key.serial) {
             return Some(slot);
         }
@@ -150,7 +86,7 @@ impl<T> Store<T> {
         ensures room { result.room ≡ 0 }
     {
         Store {
-            slab: Slab::new(alloc),
+            slab: KeptSlots::new(alloc),
             next: 0,
             total: 0,
         }
@@ -160,13 +96,19 @@ impl<T> Store<T> {
     pub fn reserve(&mut self, n: usize) -> Result<(), NoMemory>
         ensures room { OnOk result (n ≤ self.new.room) }
         ensures ready { n ≤ self.old.room → IsOk result }
+        ensures stays { n ≤ self.old.room → self.new ≡ self.old }
         ensures grows { self.old.room ≤ self.new.room }
         ensures same { self.new ≡ record self.old { room = self.new.room } }
     {
-        if self.slab.capacity() - self.slab.len() >= n {
-            return Ok(());
-        }
-        if self.slab.reserve(n).is_err() {
+        self.slab.reserve(n)
+    }
+
+    /// Tells whether `n` more names can be counted: so many calls of `name` and `put` are then lawful.
+    pub fn reserve_names(&self, n: u64) -> Result<(), NoMemory>
+        ensures ok { OnOk result (total_names self.now.items + n < 2 ^ 64) }
+        ensures ready { total_names self.now.items + n < 2 ^ 64 → IsOk result }
+    {
+        if u64::MAX - self.total < n {
             return Err(NoMemory);
         }
         Ok(())
@@ -185,23 +127,27 @@ impl<T> Store<T> {
         ensures same { OnErr result (self.new ≡ record self.old { room = self.new.room }) }
         ensures back { IfErr result (λ refused. refused.value ≡ value) }
     {
-        let serial = self.next;
-        let kept = Kept {
-            serial,
-            names: 1,
-            value,
-        };
-        match self.slab.insert(kept) {
-            Ok(slot) => {
-                self.next += 1;
-                self.total += 1;
-                Ok(ObjKey { slot, serial })
-            }
-            Err(refused) => {
-                let Kept { value, .. } = refused.value;
-                Err(PutRefused { value })
-            }
+        if self.reserve(1).is_err() {
+            return Err(PutRefused { value });
         }
+        Ok(self.put_reserved(value))
+    }
+
+    /// Stores a value as `put` does, where there is room.
+    pub fn put_reserved(&mut self, value: T) -> ObjKey
+        requires room { 0 < self.old.room }
+        requires serial { self.old.next < 2 ^ 64 - 1 }
+        requires names { total_names self.old.items < 2 ^ 64 - 1 }
+        ensures key { result.serial ≡ self.old.next }
+        ensures items { self.new.items ≡ self.old.items ++ new_held self.old.next value ∷ [] }
+        ensures next { self.new.next ≡ self.old.next + 1 }
+        ensures room { self.new.room + 1 ≡ self.old.room }
+    {
+        let serial = self.next;
+        let slot = self.slab.insert(serial, value);
+        self.next += 1;
+        self.total += 1;
+        ObjKey { slot, serial }
     }
 
     /// Gives the value one more name.
@@ -212,10 +158,7 @@ impl<T> Store<T> {
         let Some(slot) = slot_of(&self.slab, key) else {
             return;
         };
-        let Some(kept) = self.slab.get_mut(slot) else {
-            return;
-        };
-        kept.add_name();
+        self.slab.add_name(slot);
         self.total += 1;
     }
 
@@ -229,20 +172,22 @@ impl<T> Store<T> {
         let Some(slot) = slot_of(&self.slab, key) else {
             return None;
         };
-        let Some(kept) = self.slab.get(slot) else {
-            return None;
-        };
-        if kept.names() == 1 {
-            self.total -= 1;
-            let Kept { value, .. } = self.slab.remove(slot);
-            return Some(value);
-        }
-        let Some(kept) = self.slab.get_mut(slot) else {
-            return None;
-        };
-        kept.drop_name();
         self.total -= 1;
-        None
+        self.slab.drop_name(slot)
+    }
+
+    /// A value with just one name, where there is one. It stays. Where the store's own name of each value
+    /// counts as one, that is a value which nothing else names.
+    pub fn find_dead(&self) -> Option<ObjKey>
+        ensures some { IfSome result (λ key. names_at self.now.items key.serial ≡ 1) }
+        ensures none { IfNone result (NoneDead self.now.items) }
+    {
+        let slot = self.slab.last_dead()?;
+        let kept = self.slab.get(slot)?;
+        Some(ObjKey {
+            slot,
+            serial: kept.serial(),
+        })
     }
 
     // What is there under the key's serial number.
@@ -301,7 +246,7 @@ impl<T> Store<T> {
         ensures value { value_at self.old.items key.serial ≡ Some result.now }
     {
         let slot = slot_of(&self.slab, key).unwrap();
-        self.slab.get_mut(slot).unwrap().value_mut()
+        self.slab.value_mut(slot)
     }
 
     /// A key of the value with the serial number, where it is there.
@@ -320,6 +265,13 @@ impl<T> Store<T> {
         ensures { result ≡ length self.now.items }
     {
         self.slab.len() as u64
+    }
+
+    /// The serial number that the next value gets.
+    pub fn next(&self) -> u64
+        ensures { result ≡ self.now.next }
+    {
+        self.next
     }
 
     /// The sum of all numbers of names.

@@ -1,5 +1,8 @@
-use Rattle.std.proofs.Common.{refl, sym, arith}
+use Rattle.std.proofs.Common.{refl, ◌∙◌, arith}
+use Rattle.slab.specs.Slab.{get}
 use Rattle.object_store.specs.Stock.{one_more}
+use Rattle.object_store.proofs.Dead.{changed_is}
+use Rattle.object_store.proofs.Slots.{is_at_held}
 use Rattle.object_store.proofs.Stock.{slab_len-with_slot, none_here, names-le-total, absent_changed, write_stock, write_changed}
 use Rattle.object_store.proofs.store.Store.name.Goals as goal
 
@@ -9,21 +12,24 @@ returns-in_default g c =
     rw (← c.self.view_is, absent_changed _ _ _ c.self.invariant.slots none one_more) refl
 
 pub add_name-requires : goal.add_name-requires
-add_name-requires g c =
-    let most = names-le-total _ _ _ c.in-Some.slot c.in-Some-get_mut.kept.now c.self.invariant (sym c.in-Some-get_mut.ensures.value) in
+add_name-requires g c = λ h was.
+    let most = names-le-total _ _ _ c.in-Some.slot h c.self.invariant was in
     let summed = c.self.invariant.summed in
     let bound = rw (← c.self.view_is) at c.requires in
-    omega arith
+    (omega (arith, most), omega (arith, most, summed, bound))
 
-pub invariant_of-self-2 : goal.invariant_of-self-2
-invariant_of-self-2 g c =
-    let h = c.in-Some-get_mut.kept.now in
-    rw c.add_name.ensures (write_stock _ _ _ _ _ c.self.invariant c.in-Some.ensures.found h (sym c.in-Some-get_mut.ensures.value) (one_more h) refl (omega arith) _ (omega arith))
+pub invariant_of-self : goal.invariant_of-self
+invariant_of-self g c =
+    let there = is_at_held (get c.self.inside.slab c.in-Some.slot) c.args.key.serial c.in-Some.ensures.found in
+    let h = there.0 in
+    let same = c.add_name.ensures ∙ changed_is c.self.inside.slab c.in-Some.slot h one_more there.1 in
+    rw same (write_stock _ _ _ _ _ c.self.invariant c.in-Some.ensures.found h there.1 (one_more h) refl (omega arith) _ (omega arith))
 
 pub returns : goal.returns
 returns g c =
-    let h = c.in-Some-get_mut.kept.now in
-    let was = sym c.in-Some-get_mut.ensures.value in
-    let items = write_changed _ _ _ _ _ c.self.invariant c.in-Some.ensures.found h was (one_more h) refl (omega arith) one_more refl in
-    let len = slab_len-with_slot c.self.inside.slab c.in-Some.slot (one_more h) h was in
-    rw (← c.self.view_is, c.add_name.ensures, items, len) refl
+    let there = is_at_held (get c.self.inside.slab c.in-Some.slot) c.args.key.serial c.in-Some.ensures.found in
+    let h = there.0 in
+    let items = write_changed _ _ _ _ _ c.self.invariant c.in-Some.ensures.found h there.1 (one_more h) refl (omega arith) one_more refl in
+    let len = slab_len-with_slot c.self.inside.slab c.in-Some.slot (one_more h) h there.1 in
+    let same = c.add_name.ensures ∙ changed_is c.self.inside.slab c.in-Some.slot h one_more there.1 in
+    rw (← c.self.view_is, same, items, len) refl
