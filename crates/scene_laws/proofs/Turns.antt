@@ -14,6 +14,7 @@ use Rattle.script_lines.specs.LineWords.{line_word}
 use Rattle.script_lines.specs.Texts.{is_text_byte, words_of, is_skipped, lines_of}
 use Rattle.scene_lines.specs.Reading.{turn_word, with_turns, known, word_act, first_word, is_header, words_act, line_act}
 use Rattle.scene_reader.specs.Whole.{opening, open_line, fault_in, turns_in, ended, lines_act, scene_of}
+use Rattle.scene_reader.proofs.Telling.{read_in_order}
 use Rattle.scene_laws.proofs.Parts.{words_few, bytes_in, lines_short}
 use Rattle.scene_laws.proofs.Results.{after, after_that, either}
 use Rattle.scene_laws.proofs.Quiet.{HasAtMost, word_few}
@@ -78,8 +79,7 @@ lines_few most (line ∷ lines) r at room =
     ] (line_few r at line)
 
 scene_few : (bytes : List ℕ) → IfOk (scene_of bytes) (IsShort (length bytes))
-unfolding scene_of
-scene_few bytes = lines_few (length bytes) (lines_of bytes) opening 1 (omega (arith, lines_short bytes))
+scene_few bytes = subst (λ rule. IfOk rule (IsShort (length bytes))) (read_in_order bytes) (lines_few (length bytes) (lines_of bytes) opening 1 (omega (arith, lines_short bytes)))
 
 pub turns_few : (bytes : List ℕ) (scene : SceneValue) → scene_of bytes ≡ Ok scene → length scene.turns ≤ length bytes
 turns_few bytes scene read = subst (λ rule. IfOk rule (IsShort (length bytes))) read (scene_few bytes)

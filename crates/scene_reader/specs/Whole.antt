@@ -1,4 +1,4 @@
--- The scene that a text spells, or its first fault.
+-- What the reader of a scene does, line by line. What a text spells is told in SceneText; that both are one is `read_in_order`.
 use Rattle.std.specs.Prelude.{◌≡◌, ℕ, ◌+◌, Bool, false, List, [], ◌∷◌, ◌&&◌, bytes_eq, codes, Option, Some, None, Result, Ok, Err, if◌then◌else◌}
 use Rattle.std.specs.List.{list_all, list_any}
 use Rattle.kernel_values.specs.SceneLaw.{SceneValue}
@@ -13,7 +13,8 @@ use Rattle.scene_lines.specs.declared.reading.Place.{Place}
 use Rattle.scene_lines.specs.declared.reading.Place.TheVariants as place
 use Rattle.scene_lines.specs.declared.reading.Registered.{Registered}
 use Rattle.scene_lines.specs.declared.reading.Reading.{Reading}
-use Rattle.script_lines.specs.Texts.{lines_of, words_of, is_text_byte}
+use Rattle.script_lines.specs.Texts.{words_of, is_text_byte}
+pub use Rattle.scene_reader.specs.SceneText.{scene_of}
 use Rattle.scene_lines.specs.Reading.{line_act, apps_with, clients_with, queue_of}
 
 abbrev pub opening : Reading
@@ -72,9 +73,6 @@ lines_act (line ∷ lines) r at = elim (line_act r at line) as (λ _. Result Sce
   | Ok next ↦ lines_act lines next (at + 1)
   | Err kind ↦ Err (fault_in (open_line r.place) at kind lines)
 ]
-
-unfoldable pub scene_of : List ℕ → Result SceneValue SceneFault
-scene_of bytes = lines_act (lines_of bytes) opening 1
 
 -- what the reader answers is the scene or the first fault; that memory ran out says nothing
 abbrev pub IsRefusal : SceneRefused → Result SceneValue SceneFault → Type 0

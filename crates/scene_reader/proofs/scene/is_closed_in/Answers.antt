@@ -1,4 +1,4 @@
-use Rattle.std.proofs.Common.{◌≡◌, arith}
+use Rattle.std.proofs.Common.{arith}
 use Rattle.scene_reader.proofs.Stepping.{none_closes}
 use Rattle.scene_reader.proofs.scene.is_closed_in.Goals as goal
 

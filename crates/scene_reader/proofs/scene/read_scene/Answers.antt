@@ -1,12 +1,11 @@
-use Rattle.std.proofs.Common.{◌≡◌, refl, arith}
-use Rattle.scene_reader.specs.Whole.{scene_of}
+use Rattle.std.proofs.Common.{arith}
+use Rattle.scene_reader.proofs.Telling.{read_in_order}
 use Rattle.scene_reader.proofs.Stepping.{goes_on, stops, is_over}
 use Rattle.scene_reader.proofs.scene.read_scene.Goals as goal
 
 pub loop-rest-init : goal.loop-rest-init
-unfolding scene_of
 loop-rest-init c = record {
-  goes_on = rw c.opening-reading.ensures.value refl;
+  goes_on = rw c.opening-reading.ensures.value (read_in_order c.args.bytes.now);
   counted = omega arith;
   lawful = c.opening-reading.ensures.lawful;
 }
