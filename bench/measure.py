@@ -3,7 +3,8 @@
 
   measure.py [--program PATH] [--only KIND] [--quick]
 
-For each kind of scene (see scenes.py) it runs the program at n and at 2n, by `serial` or on threads by `run`. Instructions are those that callgrind counts, less
+For each kind of scene (see scenes.py) it runs the program at n and at 2n, by `serial` or on threads by `run`; for `checking` it has the
+report of a serial run of the scene `printing` checked. Instructions are those that callgrind counts, less
 those of an empty scene; processor time is the least of five runs. It prints both at n and at 2n and their ratio: 2.0 is
 linear. --quick leaves callgrind out. Run by hand: nothing here is a test."""
 import argparse
@@ -19,6 +20,7 @@ PROGRAM = os.path.join(HERE, "..", "crates", "trusty_main", "out", "trusty_main"
 KINDS = [
     ("reading", 2_000_000, "serial", "summary"),
     ("printing", 50_000, "serial", "history"),
+    ("checking", 20_000, "check", None),
     ("messages", 500, "serial", "summary"),
     ("messages", 500, "run", "summary"),
     ("bridge", 500, "serial", "summary"),
@@ -36,23 +38,37 @@ def scene(kind, n, folder):
     return path
 
 
-def seconds(program, command, form, path):
+def checked(program, n, folder):
+    """A scene of n entries, with the report of its serial run behind it."""
+    path = scene("printing", n, folder)
+    with open(path, "rb") as stdin:
+        report = subprocess.run([program, "serial"], stdin=stdin, stdout=subprocess.PIPE, check=True).stdout
+    with open(path, "ab") as out:
+        out.write(b"report\n" + report)
+    return path
+
+
+def words_of(program, command, form):
+    return [program, command] + (["--form", form] if form else [])
+
+
+def seconds(words, path):
     best = None
     for _ in range(5):
         before = resource.getrusage(resource.RUSAGE_CHILDREN)
         with open(path, "rb") as stdin:
-            subprocess.run([program, command, "--form", form], stdin=stdin, stdout=subprocess.DEVNULL, check=True)
+            subprocess.run(words, stdin=stdin, stdout=subprocess.DEVNULL, check=True)
         after = resource.getrusage(resource.RUSAGE_CHILDREN)
         spent = after.ru_utime + after.ru_stime - before.ru_utime - before.ru_stime
         best = spent if best is None else min(best, spent)
     return best
 
 
-def instructions(program, command, form, path, folder):
+def instructions(words, path, folder):
     out = os.path.join(folder, "callgrind.out")
     with open(path, "rb") as stdin:
-        words = ["valgrind", "--tool=callgrind", f"--callgrind-out-file={out}", program, command, "--form", form]
-        said = subprocess.run(words, stdin=stdin, stdout=subprocess.DEVNULL, stderr=subprocess.PIPE, text=True, check=True).stderr
+        counted = ["valgrind", "--tool=callgrind", f"--callgrind-out-file={out}", *words]
+        said = subprocess.run(counted, stdin=stdin, stdout=subprocess.DEVNULL, stderr=subprocess.PIPE, text=True, check=True).stderr
     return int(re.search(r"Collected : (\d+)", said)[1])
 
 
@@ -61,17 +77,19 @@ def main():
     parser.add_argument("--program", default=PROGRAM)
     parser.add_argument("--only")
     parser.add_argument("--quick", action="store_true")
-    words = parser.parse_args()
+    given = parser.parse_args()
+    program = given.program
     with tempfile.TemporaryDirectory() as folder:
-        empty = 0 if words.quick else instructions(words.program, "serial", "summary", scene("empty", 0, folder), folder)
+        empty = 0 if given.quick else instructions(words_of(program, "serial", "summary"), scene("empty", 0, folder), folder)
         for kind, n, command, form in KINDS:
-            if words.only and words.only != kind:
+            if given.only and given.only != kind:
                 continue
-            one, two = (scene(kind, count, folder) for count in (n, 2 * n))
-            fast, slow = seconds(words.program, command, form, one), seconds(words.program, command, form, two)
+            words = words_of(program, command, form)
+            one, two = (checked(program, count, folder) if command == "check" else scene(kind, count, folder) for count in (n, 2 * n))
+            fast, slow = seconds(words, one), seconds(words, two)
             line = f"{kind}, {command}: processor time {fast:.3f} s at {n}, {slow:.3f} s at {2 * n}, ratio {slow / max(fast, 1e-6):.2f}"
-            if not words.quick:
-                few, many = (instructions(words.program, command, form, path, folder) - empty for path in (one, two))
+            if not given.quick:
+                few, many = (instructions(words, path, folder) - empty for path in (one, two))
                 line += f"; instructions {few:,} at {n}, {many:,} at {2 * n}, ratio {many / max(few, 1):.2f}"
             print(line, flush=True)
 

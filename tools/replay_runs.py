@@ -97,4 +97,5 @@ def main():
     print(f"{runs} runs: {otherwise} replayed otherwise, {hang} hang, {unlike} unlike the serial order")
 
 
-main()
+if __name__ == "__main__":
+    main()

@@ -14,7 +14,7 @@ use Rattle.command_line.specs.Program.{trusty_app, form_id, command_id}
 use Rattle.command_line.proofs.ClapApp.{shape, rules, form_rule, rows, form_free, form_twice, IsFault}
 use Rattle.command_line.proofs.WordShapes.{word_told, same_bytes, form_and_value, IsPlain, is_plain}
 use Rattle.command_line.proofs.Unknown.{unknown_fault}
-use Rattle.command_line.proofs.Walks.{after, form_next, second_form, word_next, second_word, nothing_more, bad_form, option_names_none, none_of, walk_at, walk_past, place, Good, Bad, end_fault, Agrees, Ends, refused_now, goes_on, good_end, bad_end, asking, answered, with_value, naming, asking_bad, answered_good, answered_bad, with_value_good, naming_good, if_never, end_free_turn, end_step, form_turn, form_step, value_turn, value_step}
+use Rattle.command_line.proofs.Walks.{after, form_next, second_form, word_next, second_word, nothing_more, bad_form, option_names_none, walk_at, walk_past, place, Good, Bad, end_fault, Agrees, Ends, refused_now, goes_on, good_end, bad_end, asking, answered, with_value, naming, asking_bad, answered_good, answered_bad, with_value_good, naming_good, if_never, end_free_turn, end_step, form_turn, form_step, value_turn, value_step}
 
 -- ---- words that are no option
 
@@ -78,7 +78,7 @@ past_ends (word ∷ rest) waiting held given None order good =
     goes_on (walk_past waiting 1 held) (walk_past idle 2 (naming word held)) word rest _ (past_turn word waiting held ∙ good.fault) (past_step word waiting held)
     (past_ends rest idle (naming word held) given (Some word) true (naming_good word held given order good))
 past_ends (word ∷ rest) waiting held given (Some before) order good =
-    refused_now (walk_past waiting 2 held) word rest _ (subst IsFault (sym (past_stray word waiting held)) tt) (none_of _)
+    refused_now (walk_past waiting 2 held) word rest _ (subst IsFault (sym (past_stray word waiting held)) tt) refl
 
 past_bad : (words : List Text) (waiting : Waiting) (held : Held) (named : Option Text) → Bad held → Ends (walk_past waiting (place named) held) words None
 past_bad [] waiting held named bad = bad_end (walk_past waiting (place named) held) bad

@@ -7,7 +7,7 @@ use Rattle.clap.specs.Faults.{defaults_fault, check_fault, settle_fault, use_fau
 use Rattle.clap.specs.Kinds.{Kinds, or_else}
 use Rattle.command_line.specs.declared.command.Command.{Command}
 use Rattle.command_line.specs.Words.{Spoken, with_form, with_word, is_option}
-use Rattle.command_line.specs.Commands.{form_named, form_of, command_with, command_spoken, listed, judged}
+use Rattle.command_line.specs.Commands.{form_named, command_with, command_spoken, listed, judged, the_only}
 use Rattle.command_line.specs.Program.{form_id, command_id}
 use Rattle.command_line.proofs.ClapApp.{shape, rules, form_rule, command_rule, rows, form_used, command_used, form_free, command_free, IsFault, form_twice, no_default, defaults_free, form_found, command_found}
 
@@ -27,7 +27,7 @@ form_next value named (Some rest) = refl
 
 pub second_form : (held value : Text) (named : Option Text) (rest : Option Spoken) → after (Some held) named (with_form value rest) ≡ None
 second_form held value named None = refl
-second_form held value named (Some rest) = refl
+second_form held value named (Some rest) = none_of (the_only (listed named ++ rest.words))
 
 pub word_next : (given : Option Text) (word : Text) (rest : Option Spoken) → after given None (with_word word rest) ≡ after given (Some word) rest
 word_next given word None = refl
@@ -35,7 +35,7 @@ word_next given word (Some rest) = refl
 
 pub second_word : (given : Option Text) (held word : Text) (rest : Option Spoken) → after given (Some held) (with_word word rest) ≡ None
 second_word given held word None = refl
-second_word given held word (Some rest) = none_of (form_of (listed given ++ rest.forms))
+second_word given held word (Some rest) = refl
 
 pub nothing_more : (given named : Option Text) → after given named (Some (record { forms = []; words = [] })) ≡ judged given named
 nothing_more None None = refl
@@ -44,15 +44,15 @@ nothing_more (Some value) None = refl
 nothing_more (Some value) (Some word) = refl
 
 -- no form is named by this
-bad_alone : (value : Text) (named : Option Text) (forms : List Text) (words : List Text) → form_named value ≡ None
-    → option_and_then (command_with (listed named ++ words)) (form_of (value ∷ forms)) ≡ None
-bad_alone value named [] words e = rw e refl
-bad_alone value named (again ∷ forms) words e = refl
+bad_alone : (value : Text) (forms : List Text) (name : Option Text) → form_named value ≡ None → option_and_then (command_with (value ∷ forms)) name ≡ None
+bad_alone value forms None e = refl
+bad_alone value [] (Some name) e = rw e refl
+bad_alone value (again ∷ forms) (Some name) e = refl
 
 pub bad_form : (given : Option Text) (value : Text) (named : Option Text) (rest : Option Spoken) → form_named value ≡ None → after given named (with_form value rest) ≡ None
 bad_form given value named None e = refl
-bad_form None value named (Some rest) e = bad_alone value named rest.forms rest.words e
-bad_form (Some held) value named (Some rest) e = refl
+bad_form None value named (Some rest) e = bad_alone value rest.forms (the_only (listed named ++ rest.words)) e
+bad_form (Some held) value named (Some rest) e = none_of (the_only (listed named ++ rest.words))
 
 first_names_none : (byte : ℕ) (rest : Text) → (byte == 45) ≡ true → form_named (byte ∷ rest) ≡ None
 first_names_none byte rest e = let dash : byte ≡ 45 = eqb-true byte 45 e in ap (λ b. form_named (b ∷ rest)) dash

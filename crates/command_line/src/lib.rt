@@ -1,5 +1,5 @@
 //! The words after the program's name: `serial`, `replay` or `run`, with the report's form by
-//! `--form history`, `actors`, `counts` or `summary`.
+//! `--form history`, `actors`, `counts` or `summary`; or `check`, with no form.
 #![tactic(auto)]
 
 mod command;

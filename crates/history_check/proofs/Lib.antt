@@ -4,3 +4,4 @@ pub mod Moved
 pub mod Reached
 pub mod Taken
 pub mod Turned
+pub mod Cutting

@@ -1,8 +1,8 @@
 -- Lines of a text: what stands behind one, and how many there are.
-use Rattle.std.proofs.Common.{◌≡◌, ◌<◌, ◌≤◌, ℕ, zero, suc, ◌+◌, Bool, true, false, cond, List, [], ◌∷◌, ◌++◌, length, drop, get_or, refl, sym, ap, ◌∙◌, subst, arith, append_assoc, length-append, inl, inr}
+use Rattle.std.proofs.Common.{◌≡◌, ◌<◌, ◌≤◌, ℕ, suc, ◌+◌, Bool, true, false, cond, List, [], ◌∷◌, ◌++◌, length, drop, get_or, refl, sym, ap, ◌∙◌, subst, arith, append_assoc, length-append, inl, inr}
 use Rattle.std.specs.Prelude.{◌==◌, Option, Some, None, IfSome, IfNone, MatchOption, is_some, slice_get}
 use Rattle.std.proofs.lemmas.Bool.Decides.{nat_tests}
-use Rattle.std.proofs.lemmas.List.{at_drop_more, append_cancel_left}
+use Rattle.std.proofs.lemmas.List.{at_drop_more, append_cancel_left, drop_all}
 use Rattle.std.proofs.lemmas.List.Sums.{sum_by-cons, sum_by-append}
 use Rattle.std.proofs.lemmas.Bool.{cases_eq}
 use Rattle.std.proofs.lemmas.Option.{slice_get-get_or}
@@ -48,6 +48,15 @@ count_lined words = omega (arith, count_append (drop 1 (spelled words)) (line_en
 pub fewer_lines : (text rest : List ℕ) (words : List (List ℕ)) → text ≡ lined words ++ rest → line_count rest + 1 ≤ line_count text
 fewer_lines text rest words is = omega (arith, ap line_count is, count_append (lined words) rest, count_lined words)
 
+few_by : (t : Bool) (n limit : ℕ) → n ≤ limit → cond t 1 0 + n ≤ suc limit
+few_by true n limit few = omega (arith, few)
+few_by false n limit few = omega (arith, few)
+
+-- no more than bytes
+pub few_lines : (text : List ℕ) → line_count text ≤ length text
+few_lines [] = omega arith
+few_lines (byte ∷ text) = subst (λ n. n ≤ suc (length text)) (sym (count_cons byte text)) (few_by (byte == line_end) (line_count text) (length text) (few_lines text))
+
 behind_by : (t : Bool) (text : List ℕ) (limit : ℕ) → cond t 1 0 + line_count text ≤ limit → (line_count text ≤ limit → line_count (behind_first_line text) < limit)
     → line_count (cond t text (behind_first_line text)) < limit
 behind_by true text limit few rest = omega (arith, few)
@@ -59,13 +68,7 @@ behind_fewer (byte ∷ text) limit some few = behind_by (byte == line_end) text 
 
 -- the place is at the end
 pub all_line : (text : List ℕ) (at : ℕ) → length text ≤ at → behind_first_line text ≡ behind_first_line (drop at text) → drop (length text) text ≡ behind_first_line text
-all_line text at past so_far = drop_past text (length text) (omega arith) ∙ sym (so_far ∙ ap behind_first_line (drop_past text at past))
-  where
-    drop_past : (xs : List ℕ) (n : ℕ) → length xs ≤ n → drop n xs ≡ []
-    drop_past [] zero past = refl
-    drop_past [] (suc n) past = refl
-    drop_past (x ∷ xs) zero past = absurd (omega arith)
-    drop_past (x ∷ xs) (suc n) past = drop_past xs n (omega arith)
+all_line text at past so_far = drop_all (length text) text (omega arith) ∙ sym (so_far ∙ ap behind_first_line (drop_all at text past))
 
 -- What stands behind a front.
 

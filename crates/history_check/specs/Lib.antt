@@ -3,3 +3,4 @@ pub mod Fronts
 pub mod Steps
 pub mod Standing
 pub mod Checking
+pub mod Inputs

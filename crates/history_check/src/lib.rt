@@ -4,9 +4,11 @@
 
 pub mod actors;
 pub mod check;
+mod input;
 pub mod lines;
 pub mod steps;
 pub mod verdict;
 
 pub use check::check_text;
+pub use input::cut;
 pub use verdict::Verdict;

@@ -42,6 +42,7 @@ use Rattle.scene_lines.specs.declared.reading.Repeat.{Repeat}
 use Rattle.scene_lines.specs.declared.reading.Used.{Used}
 use Rattle.scene_lines.specs.Reading.{is_within, with_used, after_command, with_command, app_line, extended, repeat_line, call_act, with_client_command, client_line, client_repeat_line, client_call_act, no_more, next_thread, thread_act, times_in, begun, repeat_act, repeated, after_repeat, closed, client_closed, end_act, is_in_repeat, client_of, apps_with, clients_with, manifest_act, is_named, with_ports, most_apps, new_app, with_app, described_app, named_app, app_act, most_clients, new_client, with_client, client_name, named_client, client_act, may_be_sized, queue_in, queues_act, with_turns, turns_act, part_act, script_act, word_act, known, first_word, is_header, words_act, line_act}
 use Rattle.scene_reader.specs.Whole.{opening, open_line, fault_in, ended, lines_act, scene_of}
+use Rattle.scene_reader.proofs.Telling.{read_in_order}
 use Rattle.scene_laws.proofs.Results.{after, after_that, either}
 
 -- the commands write memory and rings through the driver alone
@@ -342,8 +343,7 @@ lines_honest (line ∷ lines) r at h =
     ] (line_honest r at line h)
 
 scene_honest : (bytes : List ℕ) → IfOk (scene_of bytes) IsHonestScene
-unfolding scene_of
-scene_honest bytes = lines_honest (lines_of bytes) opening 1 (refl, tt)
+scene_honest bytes = subst (λ rule. IfOk rule IsHonestScene) (read_in_order bytes) (lines_honest (lines_of bytes) opening 1 (refl, tt))
 
 pub clients_are_honest : (bytes : List ℕ) (scene : SceneValue) → scene_of bytes ≡ Ok scene → list_all is_honest scene.clients ≡ true
 clients_are_honest bytes scene read = subst (λ rule. IfOk rule IsHonestScene) read (scene_honest bytes)

@@ -19,12 +19,9 @@ use Rattle.report_text.specs.declared.form.Form.{Form}
 use Rattle.report_text.specs.declared.form.Form.TheVariants.{History}
 use Rattle.report_text.specs.declared.refused.PrintRefused.{PrintRefused}
 use Rattle.runners.specs.Runs.{run_logged}
-use Rattle.scene_reader.specs.Whole.{scene_of}
-use Rattle.script_lines.specs.declared.fault.SceneFault.{SceneFault}
 use Rattle.trusty_main.specs.Answers.{Counts, IsReportOf, Tells, TellsLong}
-use Rattle.trusty_main.specs.Due.{Due, due, due_of_run, due_of_scene}
+use Rattle.trusty_main.specs.Due.{Due, due_of_run}
 use Rattle.trusty_main.specs.Texts.{too_long_text, turn_text}
-use Rattle.trusty_main.specs.declared.plan.Plan.{Plan}
 use Rattle.trusty_main.specs.declared.status.Status.{Status}
 use Rattle.trusty_main.specs.declared.status.Status.TheVariants as status
 
@@ -38,11 +35,6 @@ told_is_report scene log end form begun facts end_is = rw (facts, end_is, begun)
 -- what is told is what is due
 pub tells_due : {d e : Due} {old new : Option (List ℕ)} {before now : ℕ} {result : Status} → d ≡ e → Tells d old new before now result → Tells e old new before now result
 tells_due {old = old} {new = new} {before = before} {now = now} {result = result} same told = subst (λ due. Tells due old new before now result) same told
-
--- of an input that was read
-pub read_is_due : (plan : Plan) (input : List ℕ) (read : Result SceneValue SceneFault) → scene_of input ≡ read → due_of_scene plan read ≡ due plan input
-unfolding due
-read_is_due plan input read is = ap (λ read. due_of_scene plan read) (sym is)
 
 -- of a run that came to its end
 pub whole_is_due : (scene : SceneValue) (form : Form) (outturn : Outturn) (log : Log) → outturn ≡ ran (run_logged log) → log.origin.state ≡ opening scene

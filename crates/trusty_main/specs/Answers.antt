@@ -20,11 +20,9 @@ use Rattle.report_text.specs.Histories.{TellsOnly}
 use Rattle.report_text.specs.declared.form.Form.{Form}
 use Rattle.report_text.specs.declared.form.Form.TheVariants.{History}
 use Rattle.script_lines.specs.declared.fault.SceneFault.{SceneFault}
-use Rattle.trusty_main.specs.Due.{Due, due}
+use Rattle.trusty_main.specs.Due.{Due}
 use Rattle.trusty_main.specs.Plans.{outturn_of}
-use Rattle.trusty_main.specs.Texts.{usage_text}
 use Rattle.trusty_main.specs.declared.plan.Order.{Order}
-use Rattle.trusty_main.specs.declared.plan.Plan.{Plan}
 use Rattle.trusty_main.specs.declared.status.Status.{Status}
 use Rattle.trusty_main.specs.declared.status.Status.TheVariants as status
 
@@ -112,6 +110,7 @@ pub record Tells (due : Due) (old new : Option (List ℕ)) (before now : ℕ) (r
   pub done : result ≡ status.Done → Told due status.Done old new
   pub input_refused : result ≡ status.InputRefused → Told due status.InputRefused old new
   pub turn_refused : result ≡ status.TurnRefused → Told due status.TurnRefused old new
+  pub history_refused : result ≡ status.HistoryRefused → Told due status.HistoryRefused old new
   pub run_too_long : result ≡ status.RunTooLong → Told due status.RunTooLong old new
   pub write_fault : result ≡ status.WriteFault → Rose before now × AppendsSome old new due.text
   pub no_memory : result ≡ status.NoMemory → AppendsSome old new due.text
@@ -131,31 +130,15 @@ exit_status status.WriteFault = 4
 exit_status status.NoMemory = 5
 exit_status status.InputTooLong = 6
 exit_status status.TurnRefused = 7
+exit_status status.HistoryRefused = 8
 exit_status status.RunTooLong = 9
 
--- there is a plan, or a scene, and this holds of it
-abbrev pub HasPlan : Option Plan → (Plan → Type 0) → Type 0
-HasPlan None holds = ⊥
-HasPlan (Some plan) holds = holds plan
-
+-- there is a scene, and this holds of it
 abbrev pub HasScene : Result SceneValue SceneFault → (SceneValue → Type 0) → Type 0
 HasScene (Err fault) holds = ⊥
 HasScene (Ok scene) holds = holds scene
-
--- a front of what is due was appended
-abbrev pub AppendsSomeDue : Option Plan → Option (List ℕ) → (old new : Option (List ℕ)) → Type 0
-AppendsSomeDue None input old new = AppendsSome old new usage_text
-AppendsSomeDue (Some plan) None old new = ⊤
-AppendsSomeDue (Some plan) (Some input) old new = AppendsSome old new (due plan input).text
 
 -- a command whose input has more bytes than the limit is told so, unless a read failed or memory was wanted
 abbrev pub TellsLong : Option (List ℕ) → ℕ → Status → Type 0
 TellsLong None limit result = ⊤
 TellsLong (Some input) limit result = limit < length input → (result ≡ status.InputTooLong) ⊎ (result ≡ status.ReadFault) ⊎ (result ≡ status.NoMemory)
-
--- a command whose input is within the limit gets what is due, unless a read or a write failed or memory was wanted
-abbrev pub GetsDue : Option Plan → Option (List ℕ) → ℕ → Status → Type 0
-GetsDue None input limit result = ⊤
-GetsDue (Some plan) None limit result = ⊤
-GetsDue (Some plan) (Some input) limit result = length input ≤ limit → result ≢ status.ReadFault → result ≢ status.WriteFault → result ≢ status.NoMemory
-    → result ≡ (due plan input).status

@@ -1,9 +1,12 @@
 -- What is due for a command and an input. For a run by threads it is the report of some history, whatever turns the threads
--- take; for the other commands it is one text.
+-- take; for the other commands it is one text: the report of one run, or the verdict on a report.
 use Rattle.std.specs.Prelude.{◌≡◌, ◌⊎◌, ◌≤◌, ◌≢◌, ℕ, List, false, length, Option, Some, None, Result, Ok, Err, ⊤, if◌then◌else◌}
 use Rattle.std.specs.Io.KnownBytes.{Appends, Keeps}
 use Rattle.command_line.specs.declared.command.Command.{Command}
 use Rattle.command_line.specs.declared.command.Command.TheVariants as command
+use Rattle.history_check.specs.Inputs.{scene_part, report_part}
+use Rattle.history_check.specs.Verdicts.{IsVerdict}
+use Rattle.history_check.specs.declared.verdict.Verdict.{Verdict}
 use Rattle.kernel_types.specs.Facts.{is_at_end}
 use Rattle.kernel_types.specs.History.{Legal, state_after}
 use Rattle.kernel_types.specs.Opening.{opening}
@@ -16,7 +19,7 @@ use Rattle.report_text.specs.declared.form.Form.{Form}
 use Rattle.scene_reader.specs.Whole.{scene_of}
 use Rattle.script_lines.specs.declared.fault.SceneFault.{SceneFault}
 use Rattle.trusty_main.specs.Answers.{AppendsSome, Crosses, IsReportOf, IsSequentialHistory, Tells, Told}
-use Rattle.trusty_main.specs.Due.{Due, due_of_run}
+use Rattle.trusty_main.specs.Due.{Due, due_of_run, due_of_verdict}
 use Rattle.trusty_main.specs.Plans.{outturn_of}
 use Rattle.trusty_main.specs.Texts.{fault_text, too_long_text, usage_text}
 use Rattle.trusty_main.specs.declared.plan.Order.TheVariants as order
@@ -35,14 +38,30 @@ abbrev pub due_of_history : SceneValue → Form → List Entry → Due
 due_of_history scene form entries = (if is_at_end (state_after (opening scene) entries) then record { status = status.Done; text = report scene entries form }
     else record { status = status.RunTooLong; text = too_long_text })
 
-abbrev pub IsDueOfScene : Command → Result SceneValue SceneFault → Due → Type 0
-IsDueOfScene command (Err fault) due = due ≡ record { status = status.InputRefused; text = fault_text fault }
-IsDueOfScene (command.Serial form) (Ok scene) due = due ≡ due_of_run scene form (outturn_of order.Serial scene)
-IsDueOfScene (command.Replay form) (Ok scene) due = due ≡ due_of_run scene form (outturn_of order.Replay scene)
-IsDueOfScene (command.Run form) (Ok scene) due = (entries : List Entry) × IsRunByThreads scene entries × (due ≡ due_of_history scene form entries)
+abbrev pub IsDueOfThreads : SceneValue → Form → Due → Type 0
+IsDueOfThreads scene form due = (entries : List Entry) × IsRunByThreads scene entries × (due ≡ due_of_history scene form entries)
 
-abbrev pub IsDue : Command → List ℕ → Due → Type 0
-IsDue command input due = IsDueOfScene command (scene_of input) due
+-- the verdict on a report of the scene
+abbrev pub IsDueOfCheck : SceneValue → List ℕ → Due → Type 0
+IsDueOfCheck scene report due = (verdict : Verdict) × IsVerdict scene report verdict × (due ≡ due_of_verdict verdict)
+
+-- the part of the input that spells the scene
+abbrev pub scene_text : Command → List ℕ → List ℕ
+scene_text (command.Serial form) input = input
+scene_text (command.Replay form) input = input
+scene_text (command.Run form) input = input
+scene_text command.Check input = scene_part input
+
+-- by the scene that was read, or its first fault
+abbrev pub IsDueOfScene : Command → List ℕ → Result SceneValue SceneFault → Due → Type 0
+IsDueOfScene command input (Err fault) due = due ≡ record { status = status.InputRefused; text = fault_text fault }
+IsDueOfScene (command.Serial form) input (Ok scene) due = due ≡ due_of_run scene form (outturn_of order.Serial scene)
+IsDueOfScene (command.Replay form) input (Ok scene) due = due ≡ due_of_run scene form (outturn_of order.Replay scene)
+IsDueOfScene (command.Run form) input (Ok scene) due = IsDueOfThreads scene form due
+IsDueOfScene command.Check input (Ok scene) due = IsDueOfCheck scene (report_part input) due
+
+unfoldable pub IsDue : Command → List ℕ → Due → Type 0
+IsDue command input due = IsDueOfScene command input (scene_of (scene_text command input)) due
 
 -- something that is due was told, with this status
 pub record ToldOf (command : Command) (input : List ℕ) (result : Status) (old new : Option (List ℕ)) : Type 0 where
@@ -54,10 +73,6 @@ pub record ToldOf (command : Command) (input : List ℕ) (result : Status) (old 
 abbrev pub HasCommand : Option Command → (Command → Type 0) → Type 0
 HasCommand None holds = ⊥
 HasCommand (Some command) holds = holds command
-
--- a command that takes no threads, or none
-abbrev pub IsPlain : Option Command → Type 0
-IsPlain asked = (form : Form) → asked ≡ Some (command.Run form) → ⊥
 
 -- a front of something that is due was appended
 
@@ -77,10 +92,12 @@ GetsDueOf (Some command) None limit result = ⊤
 GetsDueOf (Some command) (Some input) limit result = length input ≤ limit → result ≢ status.ReadFault → result ≢ status.WriteFault → result ≢ status.NoMemory
     → (due : Due) × IsDue command input due × (result ≡ due.status)
 
-abbrev pub form_of : Command → Form
-form_of (command.Serial form) = form
-form_of (command.Replay form) = form
-form_of (command.Run form) = form
+-- the form of the report that a command writes, where it writes one
+abbrev pub form_of : Command → Option Form
+form_of (command.Serial form) = Some form
+form_of (command.Replay form) = Some form
+form_of (command.Run form) = Some form
+form_of command.Check = None
 
 -- The bytes that were written are the report of such a history, with the counts after each of its steps.
 pub record IsReported (form : Form) (scene : SceneValue) (old new : Option (List ℕ)) : Type 0 where

@@ -1,16 +1,13 @@
--- What is due for a plan and an input: what is written, and the status that goes with it, where every read and write
--- succeeds and memory is there.
-use Rattle.std.specs.Prelude.{ℕ, List, Result, Ok, Err, if◌then◌else◌}
+-- What is due: what is written, and the status that goes with it, where every read and write succeeds and memory is there.
+use Rattle.std.specs.Prelude.{ℕ, List, if◌then◌else◌}
+use Rattle.history_check.specs.declared.verdict.Verdict.{Verdict}
+use Rattle.history_check.specs.declared.verdict.Verdict.TheVariants.{Yes, No}
 use Rattle.kernel_types.specs.Facts.{is_at_end}
 use Rattle.kernel_types.specs.Turns.{Outturn, ran, refused}
 use Rattle.kernel_values.specs.SceneLaw.{SceneValue}
 use Rattle.report_text.specs.Forms.{report}
 use Rattle.report_text.specs.declared.form.Form.{Form}
-use Rattle.scene_reader.specs.Whole.{scene_of}
-use Rattle.script_lines.specs.declared.fault.SceneFault.{SceneFault}
-use Rattle.trusty_main.specs.Plans.{outturn_of}
-use Rattle.trusty_main.specs.Texts.{fault_text, turn_text, too_long_text}
-use Rattle.trusty_main.specs.declared.plan.Plan.{Plan}
+use Rattle.trusty_main.specs.Texts.{turn_text, too_long_text, yes_text, no_text}
 use Rattle.trusty_main.specs.declared.status.Status.{Status}
 use Rattle.trusty_main.specs.declared.status.Status.TheVariants as status
 
@@ -24,9 +21,7 @@ due_of_run scene form (ran run) = (if is_at_end run.state then record { status =
     else record { status = status.RunTooLong; text = too_long_text })
 due_of_run scene form (refused k) = record { status = status.TurnRefused; text = turn_text k }
 
-abbrev pub due_of_scene : Plan → Result SceneValue SceneFault → Due
-due_of_scene plan (Ok scene) = due_of_run scene plan.form (outturn_of plan.order scene)
-due_of_scene plan (Err fault) = record { status = status.InputRefused; text = fault_text fault }
-
-unfoldable pub due : Plan → List ℕ → Due
-due plan input = due_of_scene plan (scene_of input)
+-- the verdict on a report
+abbrev pub due_of_verdict : Verdict → Due
+due_of_verdict (Yes count) = record { status = status.Done; text = yes_text count }
+due_of_verdict (No count) = record { status = status.HistoryRefused; text = no_text count }

@@ -14,3 +14,11 @@ turn_text k = codes "turn " ++ decimal k ++ codes " refused\n"
 
 unfoldable pub too_long_text : List ℕ
 too_long_text = codes "run too long\n"
+
+-- the report is that of a history with so many entries
+unfoldable pub yes_text : ℕ → List ℕ
+yes_text count = codes "yes " ++ decimal count ++ codes "\n"
+
+-- it is that of none; so many of its entries are those of one
+unfoldable pub no_text : ℕ → List ℕ
+no_text count = codes "no entry " ++ decimal count ++ codes "\n"

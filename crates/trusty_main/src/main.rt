@@ -1,6 +1,7 @@
-//! `trusty`: reads a scene from standard input, runs it, and writes a report to standard output.
+//! `trusty`: reads a scene from standard input, runs it, and writes a report to standard output; or checks a report.
 #![tactic(auto)]
 
+mod check;
 mod plain;
 pub mod plan;
 mod status;

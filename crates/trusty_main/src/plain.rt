@@ -1,6 +1,6 @@
 //! The commands that take no threads: from the words and the input to what is written and the status.
 
-ghost use Rattle.std.specs.Prelude.{◌≡◌, ◌≢◌, ◌+◌, ◌≤◌, ◌⊎◌, IsTrue, max, Some, None, Ok, map, length, string_bytes, IfOk, IfSome};
+ghost use Rattle.std.specs.Prelude.{◌≡◌, ◌≢◌, ◌+◌, ◌≤◌, ◌⊎◌, IsTrue, max, Some, None, Ok, map, length, string_bytes, IfSome};
 ghost use Rattle.std.specs.List.{list_all};
 ghost use Rattle.kernel_types.specs.Carried.{is_honest};
 ghost use Rattle.std.specs.Io.KnownBytes.{Appends, Keeps, IsAtEnd};
@@ -9,12 +9,14 @@ ghost use Rattle.outside_io.specs.Reading.{TakesMore};
 ghost use Rattle.scene_reader.specs.Whole.{scene_of};
 ghost use Rattle.kernel_types.specs.Opening.{opening};
 ghost use Rattle.kernel_types.specs.Turns.{history_limit};
-ghost use Rattle.trusty_main.specs.Answers.{IsRunOfPlan, IsEndless, ReportsRun, Told, Tells, TellsLong, HasPlan, HasScene, AppendsSomeDue, GetsDue};
-ghost use Rattle.trusty_main.specs.Due.{due, due_of_scene, due_of_run};
-ghost use Rattle.trusty_main.specs.Plans.{plan_in, outturn_of};
+ghost use Rattle.trusty_main.specs.Answers.{IsEndless, ReportsRun, Tells, TellsLong, HasScene};
+ghost use Rattle.trusty_main.specs.Commanded.{AppendsSomeOf, GetsDueOf, HasCommand, IsDue, TellsSome, ToldOf};
+ghost use Rattle.trusty_main.specs.Due.{due_of_run};
+ghost use Rattle.trusty_main.specs.Plans.{as_command, command_by, outturn_of, plain_in, plan_in, run_of};
 ghost use Rattle.trusty_main.specs.Texts.{usage_text};
 
-use crate::plan::{Order, Plan, plan_of};
+use crate::check::check;
+use crate::plan::{Order, Plan, Task, task_of};
 use crate::status::Status;
 use crate::telling::{tell_fault, tell_report, tell_too_long, tell_turn, tell_usage};
 use kernel_types::IpcKernel;
@@ -27,53 +29,55 @@ use scene_laws::{scenes_have_honest_clients, turns_take_bytes};
 use scene_reader::{SceneRefused, read_scene};
 use std::alloc::Global;
 
-/// Runs the command that the words give: reads a scene to the source's end, runs it, and writes the
-/// report. `run` takes threads, and is no command here.
-#[tactic(auto, using(crate::proofs::Reporting::within_limit, crate::proofs::Reporting::long_told, crate::proofs::Reporting::long_failed, crate::proofs::Reporting::long_unread, crate::proofs::Reporting::if_any, crate::proofs::Reporting::unread))]
+/// Does what the words command: reads the source to its end, runs the scene that it spells and writes the report, or tells
+/// the verdict on the report that follows it. `run` takes threads, and is no command here.
+#[tactic(auto, using(crate::proofs::Reporting::within_limit, crate::proofs::Reporting::long_told, crate::proofs::Reporting::long_failed, crate::proofs::Reporting::long_unread, crate::proofs::Reporting::if_any, crate::proofs::Reporting::unread, crate::proofs::Commanding::run_later, crate::proofs::Commanding::run_no_usage, crate::proofs::Commanding::run_no_fault, crate::proofs::Commanding::run_told, crate::proofs::Commanding::run_refused, crate::proofs::Commanding::run_turn, crate::proofs::Commanding::run_history, crate::proofs::Commanding::run_endless, crate::proofs::Commanding::run_fault, crate::proofs::Commanding::run_memory, crate::proofs::Commanding::run_gets, crate::proofs::Commanding::planned_by))]
 pub fn trusty_plain<S: Source, K: Sink>(
     alloc: Global,
     words: &[String],
     source: &mut S,
     sink: &mut K,
 ) -> Status
-    // The bytes written are the report of the run of the scene that was left: a legal and whole history, after every step
-    // of which each object that is there is named, and an ended application names none; frames cross in order.
-    ensures done { result ≡ Status.Done → HasPlan (plan_in (map string_bytes words.now)) (λ plan. IfSome (S.left source.old) (λ input. Told (due plan input) Status.Done (K.written sink.old) (K.written sink.new)
-        × HasScene (scene_of input) (λ scene. IsRunOfPlan plan.order scene)))
+    // What is told is what is due: the one text that the command and the input mean, with its status.
+    ensures told { result ≡ Status.Done → HasCommand (plain_in (map string_bytes words.now)) (λ command. IfSome (S.left source.old) (λ input. ToldOf command input Status.Done (K.written sink.old) (K.written sink.new)))
         × IsAtEnd (S.left source.new) }
+    ensures input_refused { result ≡ Status.InputRefused → HasCommand (plain_in (map string_bytes words.now)) (λ command. IfSome (S.left source.old) (λ input. ToldOf command input Status.InputRefused (K.written sink.old) (K.written sink.new)))
+        × IsAtEnd (S.left source.new) }
+    ensures turn_refused { result ≡ Status.TurnRefused → HasCommand (plain_in (map string_bytes words.now)) (λ command. IfSome (S.left source.old) (λ input. ToldOf command input Status.TurnRefused (K.written sink.old) (K.written sink.new)))
+        × IsAtEnd (S.left source.new) }
+    ensures history_refused { result ≡ Status.HistoryRefused → HasCommand (plain_in (map string_bytes words.now)) (λ command. IfSome (S.left source.old) (λ input. ToldOf command input Status.HistoryRefused (K.written sink.old) (K.written sink.new)))
+        × IsAtEnd (S.left source.new) }
+    ensures run_too_long { result ≡ Status.RunTooLong → HasCommand (plain_in (map string_bytes words.now)) (λ command. IfSome (S.left source.old) (λ input. ToldOf command input Status.RunTooLong (K.written sink.old) (K.written sink.new)))
+        × IsAtEnd (S.left source.new) }
+    ensures usage { result ≡ Status.Usage → (plain_in (map string_bytes words.now) ≡ None) × Appends (K.written sink.old) (K.written sink.new) usage_text × (source.new ≡ source.old) }
 
-    // The report was written by the counts that the kernel gave after each step, and in the history form it is the report of
-    // no other history.
-    ensures reported { result ≡ Status.Done → HasPlan (plan_in (map string_bytes words.now)) (λ plan. IfSome (S.left source.old) (λ input. HasScene (scene_of input) (λ scene. ReportsRun plan.order plan.form scene (K.written sink.old) (K.written sink.new)))) }
-    ensures input_refused { result ≡ Status.InputRefused → HasPlan (plan_in (map string_bytes words.now)) (λ plan. IfSome (S.left source.old) (λ input. Told (due plan input) Status.InputRefused (K.written sink.old) (K.written sink.new)))
-        × IsAtEnd (S.left source.new) }
-    ensures usage { result ≡ Status.Usage → (plan_in (map string_bytes words.now) ≡ None) × Appends (K.written sink.old) (K.written sink.new) usage_text × (source.new ≡ source.old) }
-    ensures turn_refused { result ≡ Status.TurnRefused → HasPlan (plan_in (map string_bytes words.now)) (λ plan. IfSome (S.left source.old) (λ input. Told (due plan input) Status.TurnRefused (K.written sink.old) (K.written sink.new)))
-        × IsAtEnd (S.left source.new) }
-    ensures run_too_long { result ≡ Status.RunTooLong → HasPlan (plan_in (map string_bytes words.now)) (λ plan. IfSome (S.left source.old) (λ input. Told (due plan input) Status.RunTooLong (K.written sink.old) (K.written sink.new)
-        × HasScene (scene_of input) (λ scene. IsEndless plan.order scene)))
-        × IsAtEnd (S.left source.new) }
+    // The bytes written for a run are the report of the run of the scene that was left: a legal and whole history, after every
+    // step of which each object that is there is named, and an ended application names none; frames cross in order. The report
+    // was written by the counts that the kernel gave after each step, and in the history form it is the report of no other
+    // history. A run that is too long has as many legal entries as a run may have, by the scripts.
+    ensures reported { result ≡ Status.Done → IfSome (plan_in (map string_bytes words.now)) (λ plan. IfSome (S.left source.old) (λ input. HasScene (scene_of input) (λ scene. ReportsRun plan.order plan.form scene (K.written sink.old) (K.written sink.new)))) }
+    ensures endless { result ≡ Status.RunTooLong → IfSome (plan_in (map string_bytes words.now)) (λ plan. IfSome (S.left source.old) (λ input. HasScene (scene_of input) (λ scene. IsEndless plan.order scene))) }
 
     // A fault is answered only where it came, and then at most a front of what is due was written.
     ensures read_fault { result ≡ Status.ReadFault → Rose (S.faults source.old) (S.faults source.new) × Keeps (K.written sink.old) (K.written sink.new) }
-    ensures write_fault { result ≡ Status.WriteFault → Rose (K.faults sink.old) (K.faults sink.new) × AppendsSomeDue (plan_in (map string_bytes words.now)) (S.left source.old) (K.written sink.old) (K.written sink.new) }
-    ensures no_memory { result ≡ Status.NoMemory → AppendsSomeDue (plan_in (map string_bytes words.now)) (S.left source.old) (K.written sink.old) (K.written sink.new) }
+    ensures write_fault { result ≡ Status.WriteFault → Rose (K.faults sink.old) (K.faults sink.new) × AppendsSomeOf (plain_in (map string_bytes words.now)) (S.left source.old) (K.written sink.old) (K.written sink.new) }
+    ensures no_memory { result ≡ Status.NoMemory → AppendsSomeOf (plain_in (map string_bytes words.now)) (S.left source.old) (K.written sink.old) (K.written sink.new) }
     ensures input_too_long { result ≡ Status.InputTooLong → TakesMore INPUT_LIMIT (S.left source.old) (S.left source.new) × Keeps (K.written sink.old) (K.written sink.new) }
     ensures later { (S.faults source.old ≤ S.faults source.new) × (K.faults sink.old ≤ K.faults sink.new) }
 
     // Words that are no command are told so, and a command whose input is within the limit gets what is due, where
     // no read and no write failed and memory was there.
-    ensures no_command { plan_in (map string_bytes words.now) ≡ None → (result ≡ Status.Usage) ⊎ (result ≡ Status.WriteFault) ⊎ (result ≡ Status.NoMemory) }
-    ensures complete { GetsDue (plan_in (map string_bytes words.now)) (S.left source.old) INPUT_LIMIT result }
-    ensures past_limit { IfSome (plan_in (map string_bytes words.now)) (λ _. TellsLong (S.left source.old) INPUT_LIMIT result) }
+    ensures no_command { plain_in (map string_bytes words.now) ≡ None → (result ≡ Status.Usage) ⊎ (result ≡ Status.WriteFault) ⊎ (result ≡ Status.NoMemory) }
+    ensures complete { GetsDueOf (plain_in (map string_bytes words.now)) (S.left source.old) INPUT_LIMIT result }
+    ensures past_limit { IfSome (plain_in (map string_bytes words.now)) (λ _. TellsLong (S.left source.old) INPUT_LIMIT result) }
 
     // One read for each byte and one more, at most, and none asks for more than a piece.
     ensures reads { S.calls source.new ≤ S.calls source.old + INPUT_LIMIT + 1 }
     ensures reads_of { IfSome (S.left source.old) (λ input. S.calls source.new ≤ S.calls source.old + length input + 1) }
     ensures asked { S.asked source.new ≤ max (S.asked source.old) READ_SIZE }
 {
-    let plan = match plan_of(alloc, words) {
-        Ok(Some(plan)) => plan,
+    let task = match task_of(alloc, words) {
+        Ok(Some(task)) => task,
         Ok(None) => return tell_usage(sink),
         Err(_) => return Status::NoMemory,
     };
@@ -83,15 +87,27 @@ pub fn trusty_plain<S: Source, K: Sink>(
         Err(ReadRefused::TooLong) => return Status::InputTooLong,
         Err(ReadRefused::NoMemory) => return Status::NoMemory,
     };
-    answer(alloc, plan, input.as_slice(), sink)
+    perform(alloc, task, input.as_slice(), sink)
+}
+
+// A run of the scene that the input is, or the check of the report behind it.
+fn perform<K: Sink>(alloc: Global, task: Task, input: &[u8], sink: &mut K) -> Status
+    requires { length input.now ≤ INPUT_LIMIT }
+    ensures tells { TellsSome (IsDue (as_command task) input.now) (K.written sink.old) (K.written sink.new) (K.faults sink.old) (K.faults sink.new) result }
+    ensures reported { result ≡ Status.Done → IfSome (run_of task) (λ plan. HasScene (scene_of input.now) (λ scene. ReportsRun plan.order plan.form scene (K.written sink.old) (K.written sink.new))) }
+    ensures endless { result ≡ Status.RunTooLong → IfSome (run_of task) (λ plan. HasScene (scene_of input.now) (λ scene. IsEndless plan.order scene)) }
+{
+    match task {
+        Task::Run(plan) => answer(alloc, plan, input, sink),
+        Task::Check => check(alloc, input, sink),
+    }
 }
 
 // The input is a scene that is run, or its first fault is told.
-#[tactic(auto, using(crate::proofs::Reporting::tells_due, crate::proofs::Reporting::read_is_due))]
+#[tactic(auto, using(crate::proofs::Commanding::untold))]
 fn answer<K: Sink>(alloc: Global, plan: Plan, input: &[u8], sink: &mut K) -> Status
     requires { length input.now ≤ INPUT_LIMIT }
-    ensures tells { Tells (due plan input.now) (K.written sink.old) (K.written sink.new) (K.faults sink.old) (K.faults sink.new) result }
-    ensures done { result ≡ Status.Done → HasScene (scene_of input.now) (λ scene. IsRunOfPlan plan.order scene) }
+    ensures tells { TellsSome (IsDue (command_by plan.order plan.form) input.now) (K.written sink.old) (K.written sink.new) (K.faults sink.old) (K.faults sink.new) result }
     ensures reported { result ≡ Status.Done → HasScene (scene_of input.now) (λ scene. ReportsRun plan.order plan.form scene (K.written sink.old) (K.written sink.new)) }
     ensures endless { result ≡ Status.RunTooLong → HasScene (scene_of input.now) (λ scene. IsEndless plan.order scene) }
 {
@@ -99,7 +115,9 @@ fn answer<K: Sink>(alloc: Global, plan: Plan, input: &[u8], sink: &mut K) -> Sta
         Ok(scene) => {
             turns_take_bytes();
             scenes_have_honest_clients();
-            run(alloc, plan, &scene, sink)
+            let told = run(alloc, plan, &scene, sink);
+            drop(scene);
+            told
         }
         Err(SceneRefused::Fault(fault)) => tell_fault(alloc, &fault, sink),
         Err(SceneRefused::NoMemory) => Status::NoMemory,
@@ -109,8 +127,7 @@ fn answer<K: Sink>(alloc: Global, plan: Plan, input: &[u8], sink: &mut K) -> Sta
 fn run<K: Sink>(alloc: Global, plan: Plan, scene: &Scene, sink: &mut K) -> Status
     requires turns { length scene.now.turns ≤ history_limit }
     requires honest { IsTrue (list_all is_honest scene.now.clients) }
-    ensures tells { Tells (due_of_scene plan (Ok scene.now)) (K.written sink.old) (K.written sink.new) (K.faults sink.old) (K.faults sink.new) result }
-    ensures done { result ≡ Status.Done → IsRunOfPlan plan.order scene.now }
+    ensures tells { Tells (due_of_run scene.now plan.form (outturn_of plan.order scene.now)) (K.written sink.old) (K.written sink.new) (K.faults sink.old) (K.faults sink.new) result }
     ensures reported { result ≡ Status.Done → ReportsRun plan.order plan.form scene.now (K.written sink.old) (K.written sink.new) }
     ensures endless { result ≡ Status.RunTooLong → IsEndless plan.order scene.now }
 {
@@ -135,7 +152,6 @@ fn run_serially<C: IpcKernel + Drop, K: Sink>(
     requires made { C.made kernel ≡ 0 }
     requires honest { IsTrue (list_all is_honest scene.now.clients) }
     ensures tells { Tells (due_of_run scene.now form (outturn_of Order.Serial scene.now)) (K.written sink.old) (K.written sink.new) (K.faults sink.old) (K.faults sink.new) result }
-    ensures done { result ≡ Status.Done → IsRunOfPlan Order.Serial scene.now }
     ensures reported { result ≡ Status.Done → ReportsRun Order.Serial form scene.now (K.written sink.old) (K.written sink.new) }
     ensures endless { result ≡ Status.RunTooLong → IsEndless Order.Serial scene.now }
 {
@@ -166,7 +182,6 @@ fn run_turns<C: IpcKernel + Drop, K: Sink>(
     requires made { C.made kernel ≡ 0 }
     requires turns { length scene.now.turns ≤ history_limit }
     ensures tells { Tells (due_of_run scene.now form (outturn_of Order.Replay scene.now)) (K.written sink.old) (K.written sink.new) (K.faults sink.old) (K.faults sink.new) result }
-    ensures done { result ≡ Status.Done → IsRunOfPlan Order.Replay scene.now }
     ensures reported { result ≡ Status.Done → ReportsRun Order.Replay form scene.now (K.written sink.old) (K.written sink.new) }
     ensures endless { result ≡ Status.RunTooLong → IsEndless Order.Replay scene.now }
 {

@@ -6,7 +6,7 @@ ghost use Rattle.trusty_main.specs.Answers.{exit_status};
 /// How the program ends.
 #[derive(Clone, Copy, PartialEq, Eq, Debug)]
 pub enum Status {
-    /// The run is whole, and its report was written.
+    /// The run is whole, and its report was written; or the report that was checked is that of a history.
     Done,
     /// The scene has a fault.
     InputRefused,
@@ -22,6 +22,8 @@ pub enum Status {
     InputTooLong,
     /// A turn of the list is not lawful, or the list ends before the run.
     TurnRefused,
+    /// The report that was checked is that of no history.
+    HistoryRefused,
     /// The run is not whole after as many entries as a run may have.
     RunTooLong,
 }
@@ -40,6 +42,7 @@ impl Status {
             Status::NoMemory => 5,
             Status::InputTooLong => 6,
             Status::TurnRefused => 7,
+            Status::HistoryRefused => 8,
             Status::RunTooLong => 9,
         }
     }

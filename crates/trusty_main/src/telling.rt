@@ -7,10 +7,10 @@ ghost use Rattle.kernel_types.specs.Opening.{opening};
 ghost use Rattle.report_text.specs.Forms.{report};
 ghost use Rattle.report_text.specs.Printing.{Prints};
 ghost use Rattle.trusty_main.specs.Answers.{Tells, AppendsSome, IsReportOf};
-ghost use Rattle.trusty_main.specs.Texts.{usage_text, fault_text, turn_text, too_long_text};
+ghost use Rattle.trusty_main.specs.Texts.{usage_text, fault_text, turn_text, too_long_text, yes_text, no_text};
 
 use crate::status::Status;
-use crate::texts::{fault_line, too_long_line, turn_line, usage_line};
+use crate::texts::{fault_line, no_line, too_long_line, turn_line, usage_line, yes_line};
 use kernel_log::Logged;
 use kernel_types::IpcKernel;
 use kernel_types::values::Scene;
@@ -68,6 +68,32 @@ pub fn tell_turn<K: Sink>(alloc: Global, turn: u64, sink: &mut K) -> Status
     }
 }
 
+/// The report that was checked is that of a history with so many entries.
+pub fn tell_yes<K: Sink>(alloc: Global, count: u64, sink: &mut K) -> Status
+    ensures tells { Tells (record { status = Status.Done; text = yes_text count }) (K.written sink.old) (K.written sink.new) (K.faults sink.old) (K.faults sink.new) result }
+{
+    let Ok(line) = yes_line(alloc, count) else {
+        return Status::NoMemory;
+    };
+    match write_all(sink, line.as_slice()) {
+        Ok(()) => Status::Done,
+        Err(_) => Status::WriteFault,
+    }
+}
+
+/// It is that of none; so many of its entries are those of one.
+pub fn tell_no<K: Sink>(alloc: Global, count: u64, sink: &mut K) -> Status
+    ensures tells { Tells (record { status = Status.HistoryRefused; text = no_text count }) (K.written sink.old) (K.written sink.new) (K.faults sink.old) (K.faults sink.new) result }
+{
+    let Ok(line) = no_line(alloc, count) else {
+        return Status::NoMemory;
+    };
+    match write_all(sink, line.as_slice()) {
+        Ok(()) => Status::HistoryRefused,
+        Err(_) => Status::WriteFault,
+    }
+}
+
 // Prints the report of the history that the kernel's journal has.
 #[tactic(auto, using(crate::proofs::Reporting::told_is_report))]
 fn print<C: IpcKernel + Drop, K: Sink>(
@@ -96,7 +122,7 @@ pub fn tell_report<C: IpcKernel + Drop, K: Sink>(
 ) -> Status
     requires { logged.now.origin.state ≡ opening scene.now }
     ensures tells { Tells (record { status = Status.Done; text = report scene.now logged.now.journal.entries form }) (K.written sink.old) (K.written sink.new) (K.faults sink.old) (K.faults sink.new) result }
-    ensures only { (result ≢ Status.RunTooLong) × (result ≢ Status.TurnRefused) }
+    ensures only { (result ≢ Status.RunTooLong) × (result ≢ Status.TurnRefused) × (result ≢ Status.HistoryRefused) }
     ensures reports { result ≡ Status.Done → IsReportOf form scene.now logged.now.journal.entries (K.written sink.old) (K.written sink.new) }
 {
     match print(alloc, form, scene, logged, sink) {

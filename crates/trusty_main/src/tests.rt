@@ -73,6 +73,13 @@ fn rows(rt: HostRuntime) -> Result<(), Fail> {
             "usage: trusty COMMAND [--form FORM]\n",
             Status::Usage,
         ),
+        (
+            "check",
+            "scene 1\nreport\nhistory 0\nend clock 0 objects 0 names 0\n",
+            "yes 0\n",
+            Status::Done,
+        ),
+        ("check", SCENE, "no entry 0\n", Status::HistoryRefused),
     ];
     for (text, scene, written, status) in rows {
         let mut source = QuietSource::new(rt.alloc(), scene.as_bytes(), 10)?;

@@ -1,7 +1,7 @@
 //! What the program writes besides reports.
 
 ghost use Rattle.std.specs.Prelude.{◌≡◌, IfOk};
-ghost use Rattle.trusty_main.specs.Texts.{usage_text, fault_text, turn_text, too_long_text};
+ghost use Rattle.trusty_main.specs.Texts.{usage_text, fault_text, turn_text, too_long_text, yes_text, no_text};
 
 use itoa::Buffer;
 use kernel_types::values::NoMemory;
@@ -45,5 +45,29 @@ pub fn turn_line(alloc: Global, turn: u64) -> Result<Vec<u8>, NoMemory>
     let mut line = Vec::from_slice(alloc, b"turn ")?;
     line.extend_from_slice(number.format(turn).as_bytes())?;
     line.extend_from_slice(b" refused\n")?;
+    Ok(line)
+}
+
+/// A history's number of entries, of which a report was that.
+#[tactic(auto, unfolding(crate::specs::Texts::yes_text))]
+pub fn yes_line(alloc: Global, count: u64) -> Result<Vec<u8>, NoMemory>
+    ensures { IfOk result (λ line. line.items ≡ yes_text count) }
+{
+    let mut number = Buffer::new();
+    let mut line = Vec::from_slice(alloc, b"yes ")?;
+    line.extend_from_slice(number.format(count).as_bytes())?;
+    line.extend_from_slice(b"\n")?;
+    Ok(line)
+}
+
+/// The number of entries with which a report goes along with a history.
+#[tactic(auto, unfolding(crate::specs::Texts::no_text))]
+pub fn no_line(alloc: Global, count: u64) -> Result<Vec<u8>, NoMemory>
+    ensures { IfOk result (λ line. line.items ≡ no_text count) }
+{
+    let mut number = Buffer::new();
+    let mut line = Vec::from_slice(alloc, b"no entry ")?;
+    line.extend_from_slice(number.format(count).as_bytes())?;
+    line.extend_from_slice(b"\n")?;
     Ok(line)
 }

@@ -1,14 +1,14 @@
 //! The top call: from the words and the input to what is written and the status.
 
-ghost use Rattle.std.specs.Prelude.{◌≡◌, ◌≢◌, ◌+◌, ◌≤◌, ◌⊎◌, max, Some, None, Ok, map, length, string_bytes, IfNone, IfSome};
+ghost use Rattle.std.specs.Prelude.{◌≡◌, ◌≢◌, ◌+◌, ◌≤◌, ◌⊎◌, max, Some, None, map, length, string_bytes, IfNone, IfSome};
 ghost use Rattle.std.specs.Io.KnownBytes.{Appends, Keeps, IsAtEnd};
 ghost use Rattle.outside_io.specs.Faults.{Rose};
 ghost use Rattle.outside_io.specs.Reading.{TakesMore};
 ghost use Rattle.command_line.specs.Commands.{command_in};
 ghost use Rattle.scene_reader.specs.Whole.{scene_of};
 ghost use Rattle.trusty_main.specs.Answers.{HasScene, IsEndless, ReportsRun, TellsLong};
-ghost use Rattle.trusty_main.specs.Commanded.{AppendsSomeOf, GetsDueOf, HasCommand, IsDue, IsDueOfScene, IsPlain, IsReported, TellsSome, ToldOf, form_of};
-ghost use Rattle.trusty_main.specs.Plans.{plan_in};
+ghost use Rattle.trusty_main.specs.Commanded.{AppendsSomeOf, GetsDueOf, HasCommand, IsDue, IsDueOfThreads, IsReported, TellsSome, ToldOf, form_of};
+ghost use Rattle.trusty_main.specs.Plans.{plain_of, plan_in};
 ghost use Rattle.trusty_main.specs.Texts.{usage_text};
 
 use crate::plain::trusty_plain;
@@ -26,9 +26,9 @@ use std::sync::Wait;
 use std::thread::Threads;
 
 /// Runs the command that the words give: reads a scene to the source's end, runs it, and writes the
-/// report. For `run` each actor has a thread of its own, and the hook is called before each of its calls;
+/// report; or checks the report that follows it. For `run` each actor has a thread of its own, and the hook is called before each of its calls;
 /// that this returns is not promised. Every other command takes no threads and always returns.
-#[tactic(auto, using(crate::proofs::Reporting::if_any, crate::proofs::Reporting::long_unread, crate::proofs::Reporting::unread))]
+#[tactic(auto, unfolding(crate::specs::Plans::plain_in), using(crate::proofs::Reporting::if_any, crate::proofs::Reporting::long_unread, crate::proofs::Reporting::unread))]
 pub fn trusty<R: Threads + Wait + Sync, S: Source, K: Sink, H: Hook + Sync>(
     rt: &R,
     alloc: Global,
@@ -43,7 +43,7 @@ pub fn trusty<R: Threads + Wait + Sync, S: Source, K: Sink, H: Hook + Sync>(
     // is there is named by some entry, and an ended application names none. Where clients write memory and rings through
     // the driver alone, what crosses the bridge in it is carried in order. In the history form no other history has this
     // report.
-    ensures done { result ≡ Status.Done → HasCommand (command_in (map string_bytes words.now)) (λ command. IfSome (S.left source.old) (λ input. HasScene (scene_of input) (λ scene. IsReported (form_of command) scene (K.written sink.old) (K.written sink.new))))
+    ensures done { result ≡ Status.Done → HasCommand (command_in (map string_bytes words.now)) (λ command. IfSome (form_of command) (λ form. IfSome (S.left source.old) (λ input. HasScene (scene_of input) (λ scene. IsReported form scene (K.written sink.old) (K.written sink.new)))))
         × IsAtEnd (S.left source.new) }
 
     // Of `serial` and `replay` that history is the run of their turns, in every form; and one that is too long has as many
@@ -51,11 +51,13 @@ pub fn trusty<R: Threads + Wait + Sync, S: Source, K: Sink, H: Hook + Sync>(
     ensures reported { result ≡ Status.Done → IfSome (plan_in (map string_bytes words.now)) (λ plan. IfSome (S.left source.old) (λ input. HasScene (scene_of input) (λ scene. ReportsRun plan.order plan.form scene (K.written sink.old) (K.written sink.new)))) }
     ensures endless { result ≡ Status.RunTooLong → IfSome (plan_in (map string_bytes words.now)) (λ plan. IfSome (S.left source.old) (λ input. HasScene (scene_of input) (λ scene. IsEndless plan.order scene))) }
 
-    // What is told is what is due: of `serial` and `replay` the one text, of `run` that of some history.
+    // What is told is what is due: of `serial` and `replay` the one text, of `run` that of some history, of `check` the verdict.
     ensures told { result ≡ Status.Done → HasCommand (command_in (map string_bytes words.now)) (λ command. IfSome (S.left source.old) (λ input. ToldOf command input Status.Done (K.written sink.old) (K.written sink.new))) }
     ensures input_refused { result ≡ Status.InputRefused → HasCommand (command_in (map string_bytes words.now)) (λ command. IfSome (S.left source.old) (λ input. ToldOf command input Status.InputRefused (K.written sink.old) (K.written sink.new)))
         × IsAtEnd (S.left source.new) }
     ensures turn_refused { result ≡ Status.TurnRefused → HasCommand (command_in (map string_bytes words.now)) (λ command. IfSome (S.left source.old) (λ input. ToldOf command input Status.TurnRefused (K.written sink.old) (K.written sink.new)))
+        × IsAtEnd (S.left source.new) }
+    ensures history_refused { result ≡ Status.HistoryRefused → HasCommand (command_in (map string_bytes words.now)) (λ command. IfSome (S.left source.old) (λ input. ToldOf command input Status.HistoryRefused (K.written sink.old) (K.written sink.new)))
         × IsAtEnd (S.left source.new) }
     ensures run_too_long { result ≡ Status.RunTooLong → HasCommand (command_in (map string_bytes words.now)) (λ command. IfSome (S.left source.old) (λ input. ToldOf command input Status.RunTooLong (K.written sink.old) (K.written sink.new)))
         × IsAtEnd (S.left source.new) }
@@ -92,18 +94,19 @@ pub fn trusty<R: Threads + Wait + Sync, S: Source, K: Sink, H: Hook + Sync>(
 // The form of a command that takes threads.
 fn threaded(command: Option<Command>) -> Option<Form>
     ensures threads { IfSome result (λ form. command ≡ Some (Command.Run form)) }
-    ensures plain { IfNone result (IsPlain command) }
+    ensures plain { IfNone result (plain_of command ≡ command) }
 {
     match command {
         None => None,
         Some(Command::Serial(_)) => None,
         Some(Command::Replay(_)) => None,
+        Some(Command::Check) => None,
         Some(Command::Run(form)) => Some(form),
     }
 }
 
 // Reads a scene and runs it by threads.
-#[tactic(auto, using(crate::proofs::Reporting::within_limit, crate::proofs::Reporting::long_told, crate::proofs::Reporting::long_failed, crate::proofs::Reporting::long_unread, crate::proofs::Reporting::unread, crate::proofs::Commanding::run_later, crate::proofs::Commanding::run_no_usage, crate::proofs::Commanding::run_no_fault, crate::proofs::Commanding::run_told, crate::proofs::Commanding::run_refused, crate::proofs::Commanding::run_turn, crate::proofs::Commanding::run_endless, crate::proofs::Commanding::run_fault, crate::proofs::Commanding::run_memory, crate::proofs::Commanding::run_gets))]
+#[tactic(auto, using(crate::proofs::Reporting::within_limit, crate::proofs::Reporting::long_told, crate::proofs::Reporting::long_failed, crate::proofs::Reporting::long_unread, crate::proofs::Reporting::unread, crate::proofs::Commanding::run_later, crate::proofs::Commanding::run_no_usage, crate::proofs::Commanding::run_no_fault, crate::proofs::Commanding::run_told, crate::proofs::Commanding::run_refused, crate::proofs::Commanding::run_turn, crate::proofs::Commanding::run_history, crate::proofs::Commanding::run_endless, crate::proofs::Commanding::run_fault, crate::proofs::Commanding::run_memory, crate::proofs::Commanding::run_gets))]
 fn run<R: Threads + Wait + Sync, S: Source, K: Sink, H: Hook + Sync>(
     rt: &R,
     alloc: Global,
@@ -116,6 +119,7 @@ fn run<R: Threads + Wait + Sync, S: Source, K: Sink, H: Hook + Sync>(
     ensures told { result ≡ Status.Done → IfSome (S.left source.old) (λ input. ToldOf (Command.Run form) input Status.Done (K.written sink.old) (K.written sink.new)) }
     ensures input_refused { result ≡ Status.InputRefused → IfSome (S.left source.old) (λ input. ToldOf (Command.Run form) input Status.InputRefused (K.written sink.old) (K.written sink.new)) × IsAtEnd (S.left source.new) }
     ensures turn_refused { result ≡ Status.TurnRefused → IfSome (S.left source.old) (λ input. ToldOf (Command.Run form) input Status.TurnRefused (K.written sink.old) (K.written sink.new)) × IsAtEnd (S.left source.new) }
+    ensures history_refused { result ≡ Status.HistoryRefused → IfSome (S.left source.old) (λ input. ToldOf (Command.Run form) input Status.HistoryRefused (K.written sink.old) (K.written sink.new)) × IsAtEnd (S.left source.new) }
     ensures run_too_long { result ≡ Status.RunTooLong → IfSome (S.left source.old) (λ input. ToldOf (Command.Run form) input Status.RunTooLong (K.written sink.old) (K.written sink.new)) × IsAtEnd (S.left source.new) }
     ensures no_usage { result ≢ Status.Usage }
     ensures read_fault { result ≡ Status.ReadFault → Rose (S.faults source.old) (S.faults source.new) × Keeps (K.written sink.old) (K.written sink.new) }
@@ -139,7 +143,7 @@ fn run<R: Threads + Wait + Sync, S: Source, K: Sink, H: Hook + Sync>(
 }
 
 // The input is a scene that is run, or its first fault is told.
-#[tactic(auto, using(crate::proofs::Commanding::scene_told, crate::proofs::Commanding::fault_told, crate::proofs::Commanding::untold))]
+#[tactic(auto, using(crate::proofs::Commanding::untold))]
 fn answer<R: Threads + Wait + Sync, K: Sink, H: Hook + Sync>(
     rt: &R,
     alloc: Global,
@@ -172,7 +176,7 @@ fn run_scene<R: Threads + Wait + Sync, K: Sink, H: Hook + Sync>(
     sink: &mut K,
     hook: &H,
 ) -> Status
-    ensures tells { TellsSome (IsDueOfScene (Command.Run form) (Ok scene.now)) (K.written sink.old) (K.written sink.new) (K.faults sink.old) (K.faults sink.new) result }
+    ensures tells { TellsSome (IsDueOfThreads scene.now form) (K.written sink.old) (K.written sink.new) (K.faults sink.old) (K.faults sink.new) result }
     ensures done { result ≡ Status.Done → IsReported form scene.now (K.written sink.old) (K.written sink.new) }
 {
     let Ok(kernel) = kernel_of(alloc, scene) else {
