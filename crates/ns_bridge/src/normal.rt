@@ -93,7 +93,8 @@ fn drains(call: &Call) -> bool
 
 /// Whether an address is left for each connection that the call may add to those that were asked for.
 fn has_room(asked: u32, call: &Call) -> bool
-    ensures { IsTrue result → HasRoomFor asked call.now }
+    ensures room { IsTrue result → HasRoomFor asked call.now }
+    ensures full { HasRoomFor asked call.now → IsTrue result }
 {
     match call {
         Call::NsConnect { path: _ } => asked < u32::MAX - 1024,
