@@ -1,5 +1,5 @@
 -- Whose entry a line is of: what stands behind the number tells it.
-use Rattle.std.proofs.Common.{◌≡◌, ◌<◌, ℕ, zero, suc, List, [], ◌∷◌, ◌++◌, length, drop, get_or, Some, refl, sym, ap, ◌∙◌, subst, arith, append_assoc}
+use Rattle.std.proofs.Common.{◌≡◌, ◌<◌, ℕ, zero, suc, List, [], ◌∷◌, ◌++◌, length, drop, get_or, Some, refl, sym, ap, ◌∙◌, subst, arith, append_assoc, inl}
 use Rattle.std.specs.Prelude.{codes, decimal, slice_get}
 use Rattle.std.specs.List.{AllByRecursion}
 use Rattle.std.proofs.lemmas.List.{append_cancel_left}
@@ -156,7 +156,7 @@ module _ (names : List (List ℕ)) (plain : AllByRecursion IsWord names) (apart 
         let name_word : IsWord named.name = subst (λ w. IsWord w) (let same : name_in names other ≡ named.name = rw named.name_is refl in same) (word_of_other other named.name named.name_is) in
         let both : named.name ++ blank ∷ named.begins.0 ≡ name_in names actor ++ blank ∷ (second ++ rest) =
         sym (append_assoc named.name (blank ∷ []) named.begins.0) ∙ named.begins.1 ∙ is in
-        let name_same : named.name ≡ name_in names actor = (word_ends named.name (name_in names actor) named.begins.0 (second ++ rest) blank blank name_word word (omega arith) (omega arith) both).0 in
+        let name_same : named.name ≡ name_in names actor = (word_ends named.name (name_in names actor) named.begins.0 (second ++ rest) blank blank name_word word (inl refl) (inl refl) both).0 in
         place_same names actor other named.name apart (name_at actor below ∙ ap (λ n. Some n) (sym name_same)) named.name_is
       where
         word_of_other : (k : ℕ) (name : List ℕ) → slice_get names k ≡ Some name → IsWord (name_in names k)
@@ -171,7 +171,7 @@ module _ (names : List (List ℕ)) (plain : AllByRecursion IsWord names) (apart 
     not_step step step_word p =
         let both : step ++ blank ∷ (codes "->" ++ p.0) ≡ name_in names actor ++ blank ∷ (second ++ rest) =
         sym (append_assoc step (blank ∷ codes "->") p.0) ∙ p.1 ∙ is in
-        let behind = (word_ends step (name_in names actor) (codes "->" ++ p.0) (second ++ rest) blank blank step_word word (omega arith) (omega arith) both).1 in
+        let behind = (word_ends step (name_in names actor) (codes "->" ++ p.0) (second ++ rest) blank blank step_word word (inl refl) (inl refl) both).1 in
         no_arrow (begins_dash second rest (62 ∷ p.0) (sym (tail_is blank blank (codes "->" ++ p.0) (second ++ rest) behind)))
 
     named_here : IsNamed names said actor
@@ -184,7 +184,7 @@ module _ (names : List (List ℕ)) (plain : AllByRecursion IsWord names) (apart 
   step_apart : (said rest : List ℕ) (one other : List ℕ) → IsWord one → IsWord other → (one ≡ other → ⊥) → said ≡ one ++ blank ∷ rest → IsPrefix (other ++ blank ∷ codes "->") said → ⊥
   step_apart said rest one other p q differs is prefix =
       let both : other ++ blank ∷ (codes "->" ++ prefix.0) ≡ one ++ blank ∷ rest = sym (append_assoc other (blank ∷ codes "->") prefix.0) ∙ prefix.1 ∙ is in
-      differs (sym (word_ends other one (codes "->" ++ prefix.0) rest blank blank q p (omega arith) (omega arith) both).0)
+      differs (sym (word_ends other one (codes "->" ++ prefix.0) rest blank blank q p (inl refl) (inl refl) both).0)
 
   step_here : (said rest one : List ℕ) → said ≡ one ++ blank ∷ (codes "->" ++ rest) → IsPrefix (one ++ blank ∷ codes "->") said
   step_here said rest one is = (rest, append_assoc one (blank ∷ codes "->") rest ∙ sym is)

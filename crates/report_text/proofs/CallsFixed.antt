@@ -15,7 +15,7 @@ use Rattle.report_text.specs.Lines.{line_end, spelled, handle_words}
 use Rattle.report_text.specs.Plain.{IsWord}
 use Rattle.report_text.specs.Within.{IsCallWithin, numbers_of_timeout, numbers_of, bytes_of}
 use Rattle.report_text.proofs.Fixing.{word_first, words_off, words_up_to}
-use Rattle.report_text.proofs.WordsRead.{is_inner, is_plain, first_of, second_of, word_by, words_by, IsDigit, plain_decimal, no_decimal, number_in, number_again, bytes_in, bytes_again, plain_hex}
+use Rattle.report_text.proofs.WordsRead.{is_inner, is_plain, first_of, second_of, word_by, words_by, IsDigit, plain_decimal, no_decimal, number_in, number_again, number_same, number_back, bytes_in, bytes_again, bytes_back, plain_hex}
 
 -- a call that a line can spell, with numbers of its types
 pub record IsTold (asked : Call) : Type 0 where
@@ -104,39 +104,39 @@ unfolding width_in fixed_words tag_of call_words
 width_is (call.Send chan bytes parts) = refl
 width_is _ = refl
 
-plain_words : (asked : Call) → IsTold asked → list_all is_plain (fixed_words asked) ≡ true
+plain_words : (asked : Call) → can_be_spelled asked ≡ true → list_all is_plain (fixed_words asked) ≡ true
 unfolding fixed_words call_words is_plain
-plain_words (call.PortCreate path bufs size flags) t =
-    also refl (also (plain_path path (first_of (is_word path) (nat_lt flags.0 4) t.spelled_is)) (also (plain_decimal bufs) (also (plain_decimal size) (also (plain_port_flags flags.0) refl))))
-plain_words (call.Connect path flags) t = also refl (also (plain_path path (first_of (is_word path) (nat_lt flags.0 4) t.spelled_is)) (also (plain_connect_flags flags.0) refl))
-plain_words (call.Accept port) t = also refl (also (plain_decimal port) refl)
-plain_words (call.Send chan bytes parts) t = also refl (also (plain_decimal chan) (also (plain_hex bytes t.bytes) refl))
-plain_words (call.Get chan) t = also refl (also (plain_decimal chan) refl)
-plain_words (call.Read chan id offset room parts) t =
+plain_words (call.PortCreate path bufs size flags) can =
+    also refl (also (plain_path path (first_of (is_word path) (nat_lt flags.0 4) can)) (also (plain_decimal bufs) (also (plain_decimal size) (also (plain_port_flags flags.0) refl))))
+plain_words (call.Connect path flags) can = also refl (also (plain_path path (first_of (is_word path) (nat_lt flags.0 4) can)) (also (plain_connect_flags flags.0) refl))
+plain_words (call.Accept port) can = also refl (also (plain_decimal port) refl)
+plain_words (call.Send chan bytes parts) can = also refl (also (plain_decimal chan) (also (plain_hex bytes) refl))
+plain_words (call.Get chan) can = also refl (also (plain_decimal chan) refl)
+plain_words (call.Read chan id offset room parts) can =
     also refl (also (plain_decimal chan) (also (plain_decimal id) (also (plain_decimal offset) (also (plain_decimal room) (also (plain_decimal parts) refl)))))
-plain_words (call.Put chan id) t = also refl (also (plain_decimal chan) (also (plain_decimal id) refl))
-plain_words (call.SetCookie handle cookie) t = also refl (also (plain_decimal handle) (also (plain_decimal cookie) refl))
-plain_words (call.Close handle) t = also refl (also (plain_decimal handle) refl)
-plain_words (call.Dup handle) t = also refl (also (plain_decimal handle) refl)
-plain_words call.SetCreate t = refl
-plain_words (call.SetAdd set handle mask cookie) t =
+plain_words (call.Put chan id) can = also refl (also (plain_decimal chan) (also (plain_decimal id) refl))
+plain_words (call.SetCookie handle cookie) can = also refl (also (plain_decimal handle) (also (plain_decimal cookie) refl))
+plain_words (call.Close handle) can = also refl (also (plain_decimal handle) refl)
+plain_words (call.Dup handle) can = also refl (also (plain_decimal handle) refl)
+plain_words call.SetCreate can = refl
+plain_words (call.SetAdd set handle mask cookie) can =
     also refl (also (plain_decimal set) (also (plain_decimal handle) (also (plain_decimal mask.0) (also (plain_decimal cookie) refl))))
-plain_words (call.SetDel set label) t = also refl (also (plain_decimal set) (also (plain_decimal label) refl))
-plain_words (call.SetMod set label mask cookie) t =
+plain_words (call.SetDel set label) can = also refl (also (plain_decimal set) (also (plain_decimal label) refl))
+plain_words (call.SetMod set label mask cookie) can =
     also refl (also (plain_decimal set) (also (plain_decimal label) (also (plain_decimal mask.0) (also (plain_decimal cookie) refl))))
-plain_words (call.MemCreate size flags) t = also refl (also (plain_decimal size) (also (plain_memory_flags flags.0) refl))
-plain_words (call.MemRead handle offset len) t = also refl (also (plain_decimal handle) (also (plain_decimal offset) (also (plain_decimal len) refl)))
-plain_words (call.MemWrite handle offset bytes) t = also refl (also (plain_decimal handle) (also (plain_decimal offset) (also (plain_hex bytes t.bytes) refl)))
-plain_words (call.Wait handle timeout) t = also refl (also (plain_decimal handle) (also (plain_timeout timeout) refl))
-plain_words (call.WaitAny timeout) t = also refl (also (plain_timeout timeout) refl)
-plain_words (call.Exit code) t = also refl (also (plain_decimal code) refl)
-plain_words call.Finish t = refl
-plain_words (call.NsConnect path) t = also refl (also (plain_path path t.spelled_is) refl)
-plain_words (call.NsSend conn bytes) t = also refl (also (plain_decimal conn) (also (plain_hex bytes t.bytes) refl))
-plain_words (call.NsRecv conn timeout) t = also refl (also (plain_decimal conn) (also (plain_timeout timeout) refl))
-plain_words (call.NsClose conn) t = also refl (also (plain_decimal conn) refl)
-plain_words (call.NsPoke addr bytes) t = also refl (also (plain_decimal addr) (also (plain_hex bytes t.bytes) refl))
-plain_words (call.NsKick queue head) t = also refl (also (plain_decimal queue) (also (plain_decimal head) refl))
+plain_words (call.MemCreate size flags) can = also refl (also (plain_decimal size) (also (plain_memory_flags flags.0) refl))
+plain_words (call.MemRead handle offset len) can = also refl (also (plain_decimal handle) (also (plain_decimal offset) (also (plain_decimal len) refl)))
+plain_words (call.MemWrite handle offset bytes) can = also refl (also (plain_decimal handle) (also (plain_decimal offset) (also (plain_hex bytes) refl)))
+plain_words (call.Wait handle timeout) can = also refl (also (plain_decimal handle) (also (plain_timeout timeout) refl))
+plain_words (call.WaitAny timeout) can = also refl (also (plain_timeout timeout) refl)
+plain_words (call.Exit code) can = also refl (also (plain_decimal code) refl)
+plain_words call.Finish can = refl
+plain_words (call.NsConnect path) can = also refl (also (plain_path path can) refl)
+plain_words (call.NsSend conn bytes) can = also refl (also (plain_decimal conn) (also (plain_hex bytes) refl))
+plain_words (call.NsRecv conn timeout) can = also refl (also (plain_decimal conn) (also (plain_timeout timeout) refl))
+plain_words (call.NsClose conn) can = also refl (also (plain_decimal conn) refl)
+plain_words (call.NsPoke addr bytes) can = also refl (also (plain_decimal addr) (also (plain_hex bytes) refl))
+plain_words (call.NsKick queue head) can = also refl (also (plain_decimal queue) (also (plain_decimal head) refl))
 
 -- What the words of each kind are read as.
 
@@ -185,27 +185,32 @@ timeout_again Forever within = refl
 timeout_again (Millis time) within =
     ap (λ (b : Bool). cond b Forever (Millis (number_in (decimal time)))) (no_forever time (bytes_eq (decimal time) (codes "-1")) refl) ∙ ap Millis (number_again time within.0)
 
-parts_in : List (List ℕ) → List ℕ
-parts_in [] = []
-parts_in (leader ∷ words) = map number_in words
+timeout_back : (timeout : Timeout) → AllByRecursion (λ number. number < 2 ^ 64) (numbers_of_timeout (timeout_in (timeout_word timeout)))
+    → timeout_word (timeout_in (timeout_word timeout)) ≡ timeout_word timeout → timeout_in (timeout_word timeout) ≡ timeout
+unfolding timeout_in
+timeout_back Forever within same = refl
+timeout_back (Millis time) within same =
+    let read : timeout_in (decimal time) ≡ Millis (number_in (decimal time)) =
+    ap (λ (b : Bool). cond b Forever (Millis (number_in (decimal time)))) (no_forever time (bytes_eq (decimal time) (codes "-1")) refl) in
+    read ∙ ap Millis (number_back time (subst (λ t. AllByRecursion (λ number. number < 2 ^ 64) (numbers_of_timeout t)) read within).0 (subst (λ t. timeout_word t ≡ decimal time) read same))
 
-numbers_again : (numbers : List ℕ) → AllByRecursion (λ number. number < 2 ^ 64) numbers → map number_in (map decimal numbers) ≡ numbers
-numbers_again [] within = refl
-numbers_again (number ∷ numbers) within = λ i. number_again number within.0 i ∷ numbers_again numbers within.1 i
+decimals_same : (ms ns : List ℕ) → AllByRecursion (λ number. number < 2 ^ 64) ms → map decimal ms ≡ map decimal ns → ms ≡ ns
+decimals_same [] [] within same = refl
+decimals_same [] (n ∷ ns) within same = absurd (cc)
+decimals_same (m ∷ ms) [] within same = absurd (cc)
+decimals_same (m ∷ ms) (n ∷ ns) within same =
+    λ i. number_same m n within.0 (ap (λ l. get_or {A = List ℕ} l 0 []) same) i ∷ decimals_same ms ns within.1 (ap (drop 1) same) i
 
-handles_again : (handles : List ℕ) → AllByRecursion (λ number. number < 2 ^ 64) handles → parts_in (handle_words (codes "with") handles) ≡ handles
-unfolding parts_in
-handles_again [] within = refl
-handles_again (handle ∷ handles) within = numbers_again (handle ∷ handles) within
+handles_same : (ms ns : List ℕ) → AllByRecursion (λ number. number < 2 ^ 64) ms → handle_words (codes "with") ms ≡ handle_words (codes "with") ns → ms ≡ ns
+handles_same [] [] within same = refl
+handles_same [] (n ∷ ns) within same = absurd (cc)
+handles_same (m ∷ ms) [] within same = absurd (cc)
+handles_same (m ∷ ms) (n ∷ ns) within same = decimals_same (m ∷ ms) (n ∷ ns) within (ap (drop 1) same)
 
 parts_within : (asked : Call) → IsTold asked → AllByRecursion (λ number. number < 2 ^ 64) (parts_of asked)
 unfolding parts_of
 parts_within (call.Send chan bytes parts) t = t.numbers.1
 parts_within _ t = tt
-
-parts_again : (asked : Call) → IsTold asked → parts_in (part_words asked) ≡ parts_of asked
-unfolding part_words
-parts_again asked t = handles_again (parts_of asked) (parts_within asked t)
 
 word_at : ℕ → List (List ℕ) → List ℕ
 word_at place words = get_or words place []
@@ -284,6 +289,47 @@ read_again (call.NsClose conn) t = λ i. call.NsClose (number_again conn t.numbe
 read_again (call.NsPoke addr bytes) t = λ i. call.NsPoke (number_again addr t.numbers.0 i) (bytes_again bytes t.bytes i)
 read_again (call.NsKick queue head) t = λ i. call.NsKick (number_again queue t.numbers.0 i) (number_again head t.numbers.1.0 i)
 
+at : (place : ℕ) {words others : List (List ℕ)} → words ≡ others → get_or words place [] ≡ get_or others place []
+at place same = ap (λ words. get_or {A = List ℕ} words place []) same
+
+-- The same of a call of which only that a line can spell it is known: where what is read has its words, and numbers of its types.
+read_back : (asked : Call) → can_be_spelled asked ≡ true → IsTold (call_in (fixed_words asked) (parts_of asked)) → fixed_words (call_in (fixed_words asked) (parts_of asked)) ≡ fixed_words asked
+    → call_in (fixed_words asked) (parts_of asked) ≡ asked
+unfolding call_in system_call_in client_call_in number_at word_at fixed_words parts_of call_words
+read_back (call.PortCreate path bufs size flags) can t same =
+    λ i. call.PortCreate path (number_back bufs t.numbers.0 (at 2 same) i) (number_back size t.numbers.1.0 (at 3 same) i) (record { 0 = port_flags_again flags.0 (second_of (is_word path) (nat_lt flags.0 4) can) i })
+read_back (call.Connect path flags) can t same = λ i. call.Connect path (record { 0 = connect_flags_again flags.0 (second_of (is_word path) (nat_lt flags.0 4) can) i })
+read_back (call.Accept port) can t same = λ i. call.Accept (number_back port t.numbers.0 (at 1 same) i)
+read_back (call.Send chan bytes parts) can t same = λ i. call.Send (number_back chan t.numbers.0 (at 1 same) i) (bytes_back bytes t.bytes (at 2 same) i) parts
+read_back (call.Get chan) can t same = λ i. call.Get (number_back chan t.numbers.0 (at 1 same) i)
+read_back (call.Read chan id offset room parts) can t same =
+    λ i. call.Read (number_back chan t.numbers.0 (at 1 same) i) (number_back id t.numbers.1.0 (at 2 same) i) (number_back offset t.numbers.1.1.0 (at 3 same) i) (number_back room t.numbers.1.1.1.0 (at 4 same) i) (number_back parts t.numbers.1.1.1.1.0 (at 5 same) i)
+read_back (call.Put chan id) can t same = λ i. call.Put (number_back chan t.numbers.0 (at 1 same) i) (number_back id t.numbers.1.0 (at 2 same) i)
+read_back (call.SetCookie handle cookie) can t same = λ i. call.SetCookie (number_back handle t.numbers.0 (at 1 same) i) (number_back cookie t.numbers.1.0 (at 2 same) i)
+read_back (call.Close handle) can t same = λ i. call.Close (number_back handle t.numbers.0 (at 1 same) i)
+read_back (call.Dup handle) can t same = λ i. call.Dup (number_back handle t.numbers.0 (at 1 same) i)
+read_back call.SetCreate can t same = refl
+read_back (call.SetAdd set handle mask cookie) can t same =
+    λ i. call.SetAdd (number_back set t.numbers.0 (at 1 same) i) (number_back handle t.numbers.1.0 (at 2 same) i) (record { 0 = number_back mask.0 t.numbers.1.1.0 (at 3 same) i }) (number_back cookie t.numbers.1.1.1.0 (at 4 same) i)
+read_back (call.SetDel set label) can t same = λ i. call.SetDel (number_back set t.numbers.0 (at 1 same) i) (number_back label t.numbers.1.0 (at 2 same) i)
+read_back (call.SetMod set label mask cookie) can t same =
+    λ i. call.SetMod (number_back set t.numbers.0 (at 1 same) i) (number_back label t.numbers.1.0 (at 2 same) i) (record { 0 = number_back mask.0 t.numbers.1.1.0 (at 3 same) i }) (number_back cookie t.numbers.1.1.1.0 (at 4 same) i)
+read_back (call.MemCreate size flags) can t same = λ i. call.MemCreate (number_back size t.numbers.0 (at 1 same) i) (record { 0 = memory_flags_again flags.0 can i })
+read_back (call.MemRead handle offset len) can t same =
+    λ i. call.MemRead (number_back handle t.numbers.0 (at 1 same) i) (number_back offset t.numbers.1.0 (at 2 same) i) (number_back len t.numbers.1.1.0 (at 3 same) i)
+read_back (call.MemWrite handle offset bytes) can t same =
+    λ i. call.MemWrite (number_back handle t.numbers.0 (at 1 same) i) (number_back offset t.numbers.1.0 (at 2 same) i) (bytes_back bytes t.bytes (at 3 same) i)
+read_back (call.Wait handle timeout) can t same = λ i. call.Wait (number_back handle t.numbers.0 (at 1 same) i) (timeout_back timeout t.numbers.1 (at 2 same) i)
+read_back (call.WaitAny timeout) can t same = λ i. call.WaitAny (timeout_back timeout t.numbers (at 1 same) i)
+read_back (call.Exit code) can t same = λ i. call.Exit (number_back code t.numbers.0 (at 1 same) i)
+read_back call.Finish can t same = refl
+read_back (call.NsConnect path) can t same = refl
+read_back (call.NsSend conn bytes) can t same = λ i. call.NsSend (number_back conn t.numbers.0 (at 1 same) i) (bytes_back bytes t.bytes (at 2 same) i)
+read_back (call.NsRecv conn timeout) can t same = λ i. call.NsRecv (number_back conn t.numbers.0 (at 1 same) i) (timeout_back timeout t.numbers.1 (at 2 same) i)
+read_back (call.NsClose conn) can t same = λ i. call.NsClose (number_back conn t.numbers.0 (at 1 same) i)
+read_back (call.NsPoke addr bytes) can t same = λ i. call.NsPoke (number_back addr t.numbers.0 (at 1 same) i) (bytes_back bytes t.bytes (at 2 same) i)
+read_back (call.NsKick queue head) can t same = λ i. call.NsKick (number_back queue t.numbers.0 (at 1 same) i) (number_back head t.numbers.1.0 (at 2 same) i)
+
 -- A line fixes its call.
 
 arrow : List ℕ
@@ -311,7 +357,7 @@ unfolding is_plain
 parts_plain [] = tt
 parts_plain (handle ∷ handles) = (word_by (codes "with") refl, plain_numbers (handle ∷ handles))
 
-module _ (one two : Call) (p : IsTold one) (q : IsTold two) (more others : List (List ℕ)) (a b : List ℕ)
+module _ (one two : Call) (p : IsTold one) (q : can_be_spelled two ≡ true) (more others : List (List ℕ)) (a b : List ℕ)
     (same : spelled (call_words one ++ codes "->" ∷ more) ++ line_end ∷ a ≡ spelled (call_words two ++ codes "->" ∷ others) ++ line_end ∷ b) where
   apart : (asked : Call) (rest : List (List ℕ)) → call_words asked ++ codes "->" ∷ rest ≡ fixed_words asked ++ (part_words asked ++ codes "->" ∷ rest)
   apart asked rest = ap (λ words. words ++ codes "->" ∷ rest) (in_parts asked) ∙ append_assoc (fixed_words asked) (part_words asked) (codes "->" ∷ rest)
@@ -320,7 +366,7 @@ module _ (one two : Call) (p : IsTold one) (q : IsTold two) (more others : List 
   in_two = ap (λ words. spelled words ++ line_end ∷ a) (sym (apart one more)) ∙ same ∙ ap (λ words. spelled words ++ line_end ∷ b) (apart two others)
 
   words_one : AllByRecursion IsWord (fixed_words one)
-  words_one = words_by (fixed_words one) (plain_words one p)
+  words_one = words_by (fixed_words one) (plain_words one p.spelled_is)
 
   words_two : AllByRecursion IsWord (fixed_words two)
   words_two = words_by (fixed_words two) (plain_words two q)
@@ -343,10 +389,13 @@ module _ (one two : Call) (p : IsTold one) (q : IsTold two) (more others : List 
   parts_same = words_up_to (codes "->") (part_words one) (part_words two) more others a b (word_by (codes "->") refl) (parts_plain (parts_of one)) (parts_plain (parts_of two))
       (parts_no_arrow (parts_of one)) (parts_no_arrow (parts_of two)) cut.1
 
+  -- what is read from the words of the second call is the first
+  read_one : call_in (fixed_words two) (parts_of two) ≡ one
+  unfolding parts_of part_words
+  read_one = ap (λ words. call_in words (parts_of two)) (sym cut.0) ∙ ap (call_in (fixed_words one)) (sym (handles_same (parts_of one) (parts_of two) (parts_within one p) parts_same)) ∙ read_again one p
+
   pub call_same : one ≡ two
-  call_same = sym (read_again one p)
-      ∙ (ap (λ words. call_in words (parts_of one)) cut.0 ∙ ap (λ parts. call_in (fixed_words two) parts) (sym (parts_again one p) ∙ ap parts_in parts_same ∙ parts_again two q))
-      ∙ read_again two q
+  call_same = sym read_one ∙ read_back two q (subst IsTold (sym read_one) p) (ap fixed_words read_one ∙ cut.0)
 
 -- the first word of a call is not that of any other event
 unfoldable pub no_call_word : List ℕ → ℕ
@@ -362,5 +411,10 @@ unfolding fixed_words tag_of call_words
 tag_first (call.Send chan bytes parts) = refl
 tag_first _ = refl
 
-pub tag_plain : (asked : Call) → IsTold asked → IsWord (tag_of asked)
-tag_plain asked t = (subst (λ (ws : List (List ℕ)). AllByRecursion IsWord ws) (tagged asked) (words_by (fixed_words asked) (plain_words asked t))).0
+plain_tag : (asked : Call) → is_plain (tag_of asked) ≡ true
+unfolding fixed_words tag_of call_words is_plain
+plain_tag (call.Send chan bytes parts) = refl
+plain_tag _ = refl
+
+pub tag_plain : (asked : Call) → IsWord (tag_of asked)
+tag_plain asked = word_by (tag_of asked) (plain_tag asked)

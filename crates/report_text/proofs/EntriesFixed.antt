@@ -1,7 +1,8 @@
 -- A line fixes its event, and a text its entries, where both histories go on from the same state.
-use Rattle.std.proofs.Common.{◌≡◌, ◌<◌, ℕ, ◌+◌, List, [], ◌∷◌, ◌++◌, length, drop, Some, refl, sym, ap, ◌∙◌, subst, arith, append_assoc}
+use Rattle.std.proofs.Common.{◌≡◌, ◌<◌, ℕ, ◌+◌, true, List, [], ◌∷◌, ◌++◌, length, drop, Some, refl, sym, ap, ◌∙◌, subst, arith, append_assoc}
 use Rattle.std.specs.Prelude.{codes, decimal}
 use Rattle.std.specs.List.{AllByRecursion}
+use Rattle.kernel_values.specs.Commands.{can_be_spelled}
 use Rattle.kernel_values.specs.declared.call.Call.{Call}
 use Rattle.kernel_values.specs.declared.entry.Entry.{Entry}
 use Rattle.kernel_values.specs.declared.entry.EndFacts.{EndFacts}
@@ -15,6 +16,7 @@ use Rattle.report_text.specs.Forms.{end_words, answered_by, event_words, entry_w
 use Rattle.report_text.specs.Lines.{blank, line_end, spelled, text_of}
 use Rattle.report_text.specs.Names.{name_in}
 use Rattle.report_text.specs.Plain.{IsWord}
+use Rattle.report_text.specs.Within.{IsEventWithin, AreWithin}
 use Rattle.report_text.proofs.Fixing.{word_first, tail_is, led}
 use Rattle.report_text.proofs.WordsRead.{is_plain, word_by, IsDigit, plain_decimal, no_decimal}
 use Rattle.report_text.proofs.CallsFixed.{IsTold, told_by, tag_of, tag_first, tag_plain, call_same, no_call_word, call_word}
@@ -94,20 +96,21 @@ module _ (names : List (List ℕ)) (plain : AllByRecursion IsWord names) (apart 
   resume_below : (actor start : ℕ) → Lawful (event.Resume (record { 0 = actor }) start) → actor < length names
   resume_below actor start l = actor_below (length names) s actor start of (resumes s actor start l.0 l.1)
 
-  begin_told : (actor start : ℕ) (asked : Call) → Lawful (event.Begin (record { 0 = actor }) start asked) → IsSpelledEvent (length names) (event.Begin (record { 0 = actor }) start asked) → IsTold asked
-  begin_told actor start asked l spelled = let told = spelled (begin_below actor start asked l) in told_by asked told.0 told.1
+  begin_spelled : (actor start : ℕ) (asked : Call) → Lawful (event.Begin (record { 0 = actor }) start asked) → IsSpelledEvent (length names) (event.Begin (record { 0 = actor }) start asked)
+      → can_be_spelled asked ≡ true
+  begin_spelled actor start asked l spelled = spelled (begin_below actor start asked l)
 
-  begins_with : (e : Event) (more : List (List ℕ)) → Lawful e → IsSpelledEvent (length names) e → Begins (words_of e more) (kind_of e)
-  begins_with (event.Begin actor start asked) more l spelled = record {
+  begins_with : (e : Event) (more : List (List ℕ)) → Lawful e → Begins (words_of e more) (kind_of e)
+  begins_with (event.Begin actor start asked) more l = record {
     first = name_in names actor.0;
     second = tag_of asked;
     rest = drop 1 (call_words asked) ++ codes "->" ∷ more;
     words_are = ap (λ words. name_in names actor.0 ∷ words ++ codes "->" ∷ more) (tag_first asked);
     first_word = word_of_actor names actor.0 plain (begin_below actor.0 start asked l);
-    second_word = tag_plain asked (begin_told actor.0 start asked l spelled);
+    second_word = tag_plain asked;
     kind_is = call_word asked;
   }
-  begins_with (event.Resume actor start) more l spelled = record {
+  begins_with (event.Resume actor start) more l = record {
     first = name_in names actor.0;
     second = codes "resume";
     rest = codes "->" ∷ more;
@@ -116,9 +119,9 @@ module _ (names : List (List ℕ)) (plain : AllByRecursion IsWord names) (apart 
     second_word = resume_word;
     kind_is = resume_kind;
   }
-  begins_with event.Device more l spelled =
+  begins_with event.Device more l =
       record { first = codes "device"; second = codes "->"; rest = more; words_are = refl; first_word = device_word; second_word = arrow_word; kind_is = arrow_kind }
-  begins_with event.Idle more l spelled =
+  begins_with event.Idle more l =
       record { first = codes "idle"; second = codes "->"; rest = more; words_are = refl; first_word = idle_word; second_word = arrow_word; kind_is = arrow_kind }
 
   module _ (more others : List (List ℕ)) (a b : List ℕ) where
@@ -127,7 +130,7 @@ module _ (names : List (List ℕ)) (plain : AllByRecursion IsWord names) (apart 
         let one = word_first (name_in names j) (name_in names k) v w a b (word_of_actor names j plain p) (word_of_actor names k plain q) same in
         (actor_same names j k apart p q one.0, one.1)
 
-    begins_same : (j i : ℕ) (one : Call) (k h : ℕ) (two : Call) → Lawful (event.Begin (record { 0 = j }) i one) → Lawful (event.Begin (record { 0 = k }) h two) → IsTold one → IsTold two
+    begins_same : (j i : ℕ) (one : Call) (k h : ℕ) (two : Call) → Lawful (event.Begin (record { 0 = j }) i one) → Lawful (event.Begin (record { 0 = k }) h two) → IsTold one → can_be_spelled two ≡ true
         → told (words_of (event.Begin (record { 0 = j }) i one) more) a ≡ told (words_of (event.Begin (record { 0 = k }) h two) others) b
         → event.Begin (record { 0 = j }) i one ≡ event.Begin (record { 0 = k }) h two
     begins_same j i one k h two p q t u same =
@@ -150,31 +153,31 @@ module _ (names : List (List ℕ)) (plain : AllByRecursion IsWord names) (apart 
     idle_device : told (codes "idle" ∷ codes "->" ∷ more) a ≡ told (codes "device" ∷ codes "->" ∷ others) b → ⊥
     idle_device same = device_apart (sym (word_first (codes "idle") (codes "device") (codes "->" ∷ more) (codes "->" ∷ others) a b idle_word device_word same).0)
 
-    by_kind : (e f : Event) → kind_of e ≡ kind_of f → Lawful e → Lawful f → IsSpelledEvent (length names) e → IsSpelledEvent (length names) f
+    by_kind : (e f : Event) → kind_of e ≡ kind_of f → Lawful e → Lawful f → IsSpelledEvent (length names) e → IsEventWithin e → IsSpelledEvent (length names) f
         → told (words_of e more) a ≡ told (words_of f others) b → e ≡ f
-    by_kind (event.Begin j i one) (event.Begin k h two) kind p q t u same =
-        begins_same j.0 i one k.0 h two p q (begin_told j.0 i one p t) (begin_told k.0 h two q u) same
-    by_kind (event.Resume j i) (event.Resume k h) kind p q t u same = resumes_same j.0 i k.0 h p q same
-    by_kind event.Device event.Device kind p q t u same = refl
-    by_kind event.Device event.Idle kind p q t u same = absurd (device_idle same)
-    by_kind event.Idle event.Device kind p q t u same = absurd (idle_device same)
-    by_kind event.Idle event.Idle kind p q t u same = refl
-    by_kind (event.Begin j i one) (event.Resume k h) kind p q t u same = absurd (omega (arith, kind))
-    by_kind (event.Begin j i one) event.Device kind p q t u same = absurd (omega (arith, kind))
-    by_kind (event.Begin j i one) event.Idle kind p q t u same = absurd (omega (arith, kind))
-    by_kind (event.Resume j i) (event.Begin k h two) kind p q t u same = absurd (omega (arith, kind))
-    by_kind (event.Resume j i) event.Device kind p q t u same = absurd (omega (arith, kind))
-    by_kind (event.Resume j i) event.Idle kind p q t u same = absurd (omega (arith, kind))
-    by_kind event.Device (event.Begin k h two) kind p q t u same = absurd (omega (arith, kind))
-    by_kind event.Device (event.Resume k h) kind p q t u same = absurd (omega (arith, kind))
-    by_kind event.Idle (event.Begin k h two) kind p q t u same = absurd (omega (arith, kind))
-    by_kind event.Idle (event.Resume k h) kind p q t u same = absurd (omega (arith, kind))
+    by_kind (event.Begin j i one) (event.Begin k h two) kind p q t w u same =
+        begins_same j.0 i one k.0 h two p q (told_by one (begin_spelled j.0 i one p t) w) (begin_spelled k.0 h two q u) same
+    by_kind (event.Resume j i) (event.Resume k h) kind p q t w u same = resumes_same j.0 i k.0 h p q same
+    by_kind event.Device event.Device kind p q t w u same = refl
+    by_kind event.Device event.Idle kind p q t w u same = absurd (device_idle same)
+    by_kind event.Idle event.Device kind p q t w u same = absurd (idle_device same)
+    by_kind event.Idle event.Idle kind p q t w u same = refl
+    by_kind (event.Begin j i one) (event.Resume k h) kind p q t w u same = absurd (omega (arith, kind))
+    by_kind (event.Begin j i one) event.Device kind p q t w u same = absurd (omega (arith, kind))
+    by_kind (event.Begin j i one) event.Idle kind p q t w u same = absurd (omega (arith, kind))
+    by_kind (event.Resume j i) (event.Begin k h two) kind p q t w u same = absurd (omega (arith, kind))
+    by_kind (event.Resume j i) event.Device kind p q t w u same = absurd (omega (arith, kind))
+    by_kind (event.Resume j i) event.Idle kind p q t w u same = absurd (omega (arith, kind))
+    by_kind event.Device (event.Begin k h two) kind p q t w u same = absurd (omega (arith, kind))
+    by_kind event.Device (event.Resume k h) kind p q t w u same = absurd (omega (arith, kind))
+    by_kind event.Idle (event.Begin k h two) kind p q t w u same = absurd (omega (arith, kind))
+    by_kind event.Idle (event.Resume k h) kind p q t w u same = absurd (omega (arith, kind))
 
     -- one line, one event
-    event_same : (e f : Event) → Lawful e → Lawful f → IsSpelledEvent (length names) e → IsSpelledEvent (length names) f
+    event_same : (e f : Event) → Lawful e → Lawful f → IsSpelledEvent (length names) e → IsEventWithin e → IsSpelledEvent (length names) f
         → told (words_of e more) a ≡ told (words_of f others) b → e ≡ f
-    event_same e f p q t u same =
-        by_kind e f (kinds_same (words_of e more) (words_of f others) (kind_of e) (kind_of f) a b (begins_with e more p t) (begins_with f others q u) same) p q t u same
+    event_same e f p q t w u same =
+        by_kind e f (kinds_same (words_of e more) (words_of f others) (kind_of e) (kind_of f) a b (begins_with e more p) (begins_with f others q) same) p q t w u same
 
 -- Whole texts.
 
@@ -209,29 +212,29 @@ no_entry names k entry later end same =
 
 module _ (names : List (List ℕ)) (plain : AllByRecursion IsWord names) (apart : AreApart names) where
   entry_same : (s : State) (one two : Entry) (later others : List (List (List ℕ))) → IsOfScene (length names) s → step_entry s one.event ≡ Some one → step_entry s two.event ≡ Some two
-      → IsSpelledEvent (length names) one.event → IsSpelledEvent (length names) two.event
+      → IsSpelledEvent (length names) one.event → IsEventWithin one.event → IsSpelledEvent (length names) two.event
       → told (event_words names one.event ++ answered_by (answer_words one.answer)) (text_of later) ≡ told (event_words names two.event ++ answered_by (answer_words two.answer)) (text_of others)
       → one ≡ two
-  entry_same s one two later others of p q t u same =
-      let events : one.event ≡ two.event = event_same names plain apart s of (answer_words one.answer) (answer_words two.answer) (text_of later) (text_of others) one.event two.event (one, p) (two, q) t u same in
+  entry_same s one two later others of p q t w u same =
+      let events : one.event ≡ two.event = event_same names plain apart s of (answer_words one.answer) (answer_words two.answer) (text_of later) (text_of others) one.event two.event (one, p) (two, q) t w u same in
       let both : Some one ≡ Some two = sym p ∙ ap (λ (e : Event). step_entry s e) events ∙ q in
       cc
 
   pub entries_same : (s : State) (k : ℕ) (one two : List Entry) (end last : EndFacts) → IsOfScene (length names) s → Legal s one → Legal s two
-      → AreSpelled (length names) one → AreSpelled (length names) two
+      → AreSpelled (length names) one → AreWithin one → AreSpelled (length names) two
       → text_of (entry_lines names k one ++ end_words end ∷ []) ≡ text_of (entry_lines names k two ++ end_words last ∷ []) → one ≡ two
-  entries_same s k [] [] end last of p q t u same = refl
-  entries_same s k [] (entry ∷ two) end last of p q t u same = absurd (no_entry names k entry (entry_lines names (k + 1) two ++ end_words last ∷ []) end same)
-  entries_same s k (entry ∷ one) [] end last of p q t u same = absurd (no_entry names k entry (entry_lines names (k + 1) one ++ end_words end ∷ []) last (sym same))
-  entries_same s k (entry ∷ one) (other ∷ two) end last of p q t u same =
+  entries_same s k [] [] end last of p q t w u same = refl
+  entries_same s k [] (entry ∷ two) end last of p q t w u same = absurd (no_entry names k entry (entry_lines names (k + 1) two ++ end_words last ∷ []) end same)
+  entries_same s k (entry ∷ one) [] end last of p q t w u same = absurd (no_entry names k entry (entry_lines names (k + 1) one ++ end_words end ∷ []) last (sym same))
+  entries_same s k (entry ∷ one) (other ∷ two) end last of p q t w u same =
       let later = entry_lines names (k + 1) one ++ end_words end ∷ [] in
       let others = entry_lines names (k + 1) two ++ end_words last ∷ [] in
       let cut = lines_cut names k entry other later others same in
-      let here : entry ≡ other = entry_same s entry other later others of p.0 q.0 t.0 u.0 cut in
+      let here : entry ≡ other = entry_same s entry other later others of p.0 q.0 t.0 w.0 u.0 cut in
       let words : Entry → List (List ℕ) = λ e. event_words names e.event ++ answered_by (answer_words e.answer) in
       let after : line_end ∷ text_of later ≡ line_end ∷ text_of others =
       front_off (spelled (words entry)) (line_end ∷ text_of later) (line_end ∷ text_of others)
       (subst (λ (e : Entry). told (words entry) (text_of later) ≡ told (words e) (text_of others)) (sym here) cut) in
       let rest : one ≡ two = entries_same (next_state s entry.event) (k + 1) one two end last (step_of_scene (length names) s entry.event of) p.1
-      (subst (λ (e : Entry). Legal (next_state s e.event) two) (sym here) q.1) t.1 u.1 (tail_is line_end line_end (text_of later) (text_of others) after) in
+      (subst (λ (e : Entry). Legal (next_state s e.event) two) (sym here) q.1) t.1 w.1 u.1 (tail_is line_end line_end (text_of later) (text_of others) after) in
       λ i. here i ∷ rest i

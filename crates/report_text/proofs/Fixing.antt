@@ -1,8 +1,9 @@
 -- A text fixes its lines: what stands in front of the first byte that no word has is the first word, and so on.
-use Rattle.std.proofs.Common.{◌≡◌, ◌≤◌, ℕ, List, [], ◌∷◌, ◌++◌, length, drop, get_or, refl, sym, ap, ◌∙◌, append_assoc, arith, length-append}
+use Rattle.std.proofs.Common.{◌≡◌, ◌≤◌, ℕ, List, [], ◌∷◌, ◌++◌, length, drop, get_or, refl, sym, ap, ◌∙◌, subst, append_assoc, arith, length-append, inl, inr}
+use Rattle.std.specs.Prelude.{◌⊎◌}
 use Rattle.std.specs.List.{AllByRecursion}
 use Rattle.report_text.specs.Lines.{blank, line_end, spelled, lined, text_of}
-use Rattle.report_text.specs.Plain.{IsWord, IsLine}
+use Rattle.report_text.specs.Plain.{IsInner, IsWord, IsLine}
 
 pub head_is : (x y : ℕ) (xs ys : List ℕ) → x ∷ xs ≡ y ∷ ys → x ≡ y
 head_is x y xs ys e = ap (λ l. get_or {A = ℕ} l 0 0) e
@@ -10,10 +11,18 @@ head_is x y xs ys e = ap (λ l. get_or {A = ℕ} l 0 0) e
 pub tail_is : (x y : ℕ) (xs ys : List ℕ) → x ∷ xs ≡ y ∷ ys → xs ≡ ys
 tail_is x y xs ys e = ap (drop 1) e
 
-pub word_ends : (v w a b : List ℕ) (x y : ℕ) → IsWord v → IsWord w → x ≤ blank → y ≤ blank → v ++ x ∷ a ≡ w ++ y ∷ b → (v ≡ w) × (x ∷ a ≡ y ∷ b)
+-- a byte that parts words or lines
+abbrev pub IsPart : ℕ → Type 0
+IsPart byte = (byte ≡ blank) ⊎ (byte ≡ line_end)
+
+not_inner : (byte : ℕ) → IsPart byte → IsInner byte → ⊥
+not_inner byte (inl is) inner = inner.0 is
+not_inner byte (inr is) inner = inner.1 is
+
+pub word_ends : (v w a b : List ℕ) (x y : ℕ) → IsWord v → IsWord w → IsPart x → IsPart y → v ++ x ∷ a ≡ w ++ y ∷ b → (v ≡ w) × (x ∷ a ≡ y ∷ b)
 word_ends [] [] a b x y p q l m e = (refl, e)
-word_ends [] (c ∷ w) a b x y p q l m e = absurd (omega (arith, head_is x c a (w ++ y ∷ b) e, l, q.0))
-word_ends (d ∷ v) [] a b x y p q l m e = absurd (omega (arith, head_is d y (v ++ x ∷ a) b e, m, p.0))
+word_ends [] (c ∷ w) a b x y p q l m e = absurd (not_inner x l (subst IsInner (sym (head_is x c a (w ++ y ∷ b) e)) q.0))
+word_ends (d ∷ v) [] a b x y p q l m e = absurd (not_inner y m (subst IsInner (head_is d y (v ++ x ∷ a) b e) p.0))
 word_ends (d ∷ v) (c ∷ w) a b x y p q l m e =
     let later = word_ends v w a b x y p.1 q.1 l m (tail_is d c (v ++ x ∷ a) (w ++ y ∷ b) e) in
     (ap (λ z. z ∷ v) (head_is d c (v ++ x ∷ a) (w ++ y ∷ b) e) ∙ ap (λ l. c ∷ l) later.0, later.1)
@@ -22,12 +31,12 @@ word_ends (d ∷ v) (c ∷ w) a b x y p q l m e =
 record Parted (text : List ℕ) : Type 0 where
   first : ℕ
   rest : List ℕ
-  parts : first ≤ blank
+  parts : IsPart first
   is : text ≡ first ∷ rest
 
 parted : (words : List (List ℕ)) (a : List ℕ) → Parted (spelled words ++ line_end ∷ a)
-parted [] a = record { first = line_end; rest = a; parts = omega arith; is = refl }
-parted (word ∷ words) a = record { first = blank; rest = (word ++ spelled words) ++ line_end ∷ a; parts = omega arith; is = refl }
+parted [] a = record { first = line_end; rest = a; parts = inr refl; is = refl }
+parted (word ∷ words) a = record { first = blank; rest = (word ++ spelled words) ++ line_end ∷ a; parts = inl refl; is = refl }
 
 -- two lines that begin with a word begin with the same one, and go on alike
 pub word_first : (v w : List ℕ) (xs ys : List (List ℕ)) (a b : List ℕ) → IsWord v → IsWord w

@@ -32,17 +32,17 @@ after_head m n lines others same =
     (history, (word_by (decimal m) (plain_decimal m), tt)) (history, (word_by (decimal n) (plain_decimal n), tt))
     (sym (led (codes "history") (decimal m ∷ []) lines) ∙ ap (λ text. blank ∷ text) same ∙ led (codes "history") (decimal n ∷ []) others)).1
 
-spelled_here : (scene : SceneValue) (entries : List Entry) → IsLawfulScene scene → AreWithin entries → IsHistoryOf scene entries → AreSpelled (length (actor_names scene)) entries
-spelled_here scene entries lawful within of = subst (λ n. AreSpelled n entries) (scripts_of_scene scene) (whole_spelled scene entries lawful of.whole within)
+spelled_here : (scene : SceneValue) (entries : List Entry) → IsLawfulScene scene → IsHistoryOf scene entries → AreSpelled (length (actor_names scene)) entries
+spelled_here scene entries lawful of = subst (λ n. AreSpelled n entries) (scripts_of_scene scene) (whole_spelled scene entries lawful of.whole)
 
 -- whatever facts are told with the entries
 told_only : (scene : SceneValue) (entries : List Entry) (facts : List EndFacts) (end : EndFacts) → IsLawfulScene scene → AreWithin entries → TellsOnly scene entries (report_told scene entries facts end History)
 unfolding report report_told
-told_only scene entries facts end lawful within of other of_other other_within same =
+told_only scene entries facts end lawful within of other of_other same =
     let names = actor_names scene in
     let last : EndFacts = end_facts (state_after (opening scene) other) in
     entries_same names (actors_plain scene lawful) (actors_apart scene lawful) (opening scene) 0 entries other end last (opening_of_scene scene) of.legal of_other.legal
-    (spelled_here scene entries lawful within of) (spelled_here scene other lawful other_within of_other)
+    (spelled_here scene entries lawful of) within (spelled_here scene other lawful of_other)
     (after_head (length entries) (length other) (entry_lines names 0 entries ++ end_words end ∷ []) (entry_lines names 0 other ++ end_words last ∷ []) same)
 
 pub told_fixed : (scene : SceneValue) (entries : List Entry) (facts : List EndFacts) (end : EndFacts) (form : Form) → IsLawfulScene scene → AreWithin entries → form ≡ History

@@ -8,6 +8,7 @@ use Rattle.kernel_values.specs.SceneLaw.{SceneValue, IsLawfulScene, is_lawful_ap
 use Rattle.kernel_values.specs.Words.{is_letter, is_name_byte, is_name, are_distinct}
 use Rattle.kernel_values.specs.declared.scene.App.{App}
 use Rattle.kernel_values.specs.declared.scene.Client.{Client}
+use Rattle.report_text.specs.Lines.{blank, line_end}
 use Rattle.report_text.specs.Names.{dot, thread_name, thread_names, actor_names, name_in}
 use Rattle.report_text.specs.Plain.{IsInner, IsWord}
 use Rattle.report_text.proofs.Fixing.{head_is, tail_is}
@@ -86,7 +87,10 @@ name_bytes (byte ∷ bytes) h = (
 plain_bytes : (bytes : List ℕ) → list_all is_name_byte bytes ≡ true → IsWord bytes
 plain_bytes [] h = tt
 plain_bytes (byte ∷ bytes) h = (
-  let yes : is_name_byte byte ≡ true = first_of (is_name_byte byte) (list_all is_name_byte bytes) h in grind (arith, nat_tests),
+  (
+    (λ same. (let yes : is_name_byte blank ≡ true = sym (ap is_name_byte same) ∙ first_of (is_name_byte byte) (list_all is_name_byte bytes) h in cc (yes))),
+    (λ same. (let yes : is_name_byte line_end ≡ true = sym (ap is_name_byte same) ∙ first_of (is_name_byte byte) (list_all is_name_byte bytes) h in cc (yes))),
+  ),
   plain_bytes bytes (second_of (is_name_byte byte) (list_all is_name_byte bytes) h),
 )
 
@@ -198,7 +202,7 @@ inner_append : (xs ys : List ℕ) → IsWord xs → IsWord ys → IsWord (xs ++ 
 inner_append xs ys p q = all_append IsInner xs ys p q
 
 plain_thread : (app : List ℕ) (k : ℕ) → IsWord app → IsWord (thread_name app k)
-plain_thread app k plain = inner_append app (dot ∷ decimal k) plain (omega arith, word_by (decimal k) (plain_decimal k))
+plain_thread app k plain = inner_append app (dot ∷ decimal k) plain ((λ is. omega (arith, is), λ is. omega (arith, is)), word_by (decimal k) (plain_decimal k))
 
 plain_clients : (clients : List Client) → list_all is_lawful_client clients ≡ true → AllByRecursion IsWord (map (λ client. client.name) clients)
 plain_clients [] lawful = tt

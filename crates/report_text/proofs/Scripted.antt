@@ -18,7 +18,6 @@ use Rattle.kernel_values.specs.declared.script.Command.{Command}
 use Rattle.kernel_values.specs.declared.script.RegRead.{RegRead}
 use Rattle.kernel_types.specs.Scripts.{Stand, with_number, read_register, value_in, call_of, call_at, next_call, answered, one_if, led_by, calls_from, calls_of, script_begin}
 use Rattle.kernel_types.specs.Whole.{calls_in, call_by, is_by, IsWholeHistory}
-use Rattle.report_text.specs.Within.{AreWithin, IsEventWithin, IsCallWithin}
 use Rattle.report_text.proofs.WordsRead.{first_of, second_of}
 use Rattle.report_text.proofs.NamesApart.{all_at, all_append}
 
@@ -105,9 +104,9 @@ scripts_spell scene lawful =
 
 -- The calls of a history.
 
--- an event that begins a call of one of so many actors begins one that a line can spell, with numbers of its types
+-- an event that begins a call of one of so many actors begins one that a line can spell
 abbrev pub IsSpelledEvent : ℕ → Event → Type 0
-IsSpelledEvent count (event.Begin actor start asked) = actor.0 < count → IsSpelled asked × IsCallWithin asked
+IsSpelledEvent count (event.Begin actor start asked) = actor.0 < count → IsSpelled asked
 IsSpelledEvent count _ = Unit {0}
 
 abbrev pub AreSpelled : ℕ → List Entry → Type 0
@@ -134,29 +133,26 @@ later_calls : (count : ℕ) (entry : Entry) (entries : List Entry) → AllCalls 
 unfolding calls_in
 later_calls count entry entries all actor start below = more_calls (call_by actor start entry.event) (calls_in actor start entries) (all actor start below)
 
-event_spelled : (count : ℕ) (e : Event) (entry : Entry) (entries : List Entry) → entry.event ≡ e → AllCalls count (entry ∷ entries) → IsEventWithin e → IsSpelledEvent count e
+event_spelled : (count : ℕ) (e : Event) (entry : Entry) (entries : List Entry) → entry.event ≡ e → AllCalls count (entry ∷ entries) → IsSpelledEvent count e
 unfolding calls_in
-event_spelled count (event.Begin actor start asked) entry entries e_is all within = λ below. (
-  first_call (call_by actor.0 start entry.event) asked (calls_in actor.0 start entries)
-      (ap (λ (x : Event). call_by actor.0 start x) e_is ∙ ap (λ (b : Bool). cond b (Some asked) None) (own_by actor.0 start)) (all actor.0 start below),
-  within,
-)
-event_spelled count (event.Resume actor start) entry entries e_is all within = tt
-event_spelled count event.Device entry entries e_is all within = tt
-event_spelled count event.Idle entry entries e_is all within = tt
+event_spelled count (event.Begin actor start asked) entry entries e_is all = λ below. first_call (call_by actor.0 start entry.event) asked (calls_in actor.0 start entries)
+    (ap (λ (x : Event). call_by actor.0 start x) e_is ∙ ap (λ (b : Bool). cond b (Some asked) None) (own_by actor.0 start)) (all actor.0 start below)
+event_spelled count (event.Resume actor start) entry entries e_is all = tt
+event_spelled count event.Device entry entries e_is all = tt
+event_spelled count event.Idle entry entries e_is all = tt
 
-all_spelled : (count : ℕ) (entries : List Entry) → AllCalls count entries → AreWithin entries → AreSpelled count entries
-all_spelled count [] all within = tt
-all_spelled count (entry ∷ entries) all within = (event_spelled count entry.event entry entries refl all within.0, all_spelled count entries (later_calls count entry entries all) within.1)
+all_spelled : (count : ℕ) (entries : List Entry) → AllCalls count entries → AreSpelled count entries
+all_spelled count [] all = tt
+all_spelled count (entry ∷ entries) all = (event_spelled count entry.event entry entries refl all, all_spelled count entries (later_calls count entry entries all))
 
 script_at : {X : Type 0} (xs : List X) (k : ℕ) → k < length xs → (x : X) × (slice_get xs k ≡ Some x)
 script_at [] k below = absurd (omega arith)
 script_at (x ∷ xs) zero below = (x, refl)
 script_at (x ∷ xs) (suc k) below = script_at xs k (omega arith)
 
-pub whole_spelled : (scene : SceneValue) (entries : List Entry) → IsLawfulScene scene → IsWholeHistory scene entries → AreWithin entries → AreSpelled (length (scripts_of scene)) entries
-whole_spelled scene entries lawful whole within = all_spelled (length (scripts_of scene)) entries
+pub whole_spelled : (scene : SceneValue) (entries : List Entry) → IsLawfulScene scene → IsWholeHistory scene entries → AreSpelled (length (scripts_of scene)) entries
+whole_spelled scene entries lawful whole = all_spelled (length (scripts_of scene)) entries
     (λ actor start below.
     let script : (x : List Command) × (slice_get (scripts_of scene) actor ≡ Some x) = script_at (scripts_of scene) actor below in
     let fits = whole.follows actor start script.0 script.1 in
-    calls_spelled script.0 (calls_in actor start entries) _ (all_at Spells (scripts_of scene) actor script.0 (scripts_spell scene lawful) script.1) fits.0) within
+    calls_spelled script.0 (calls_in actor start entries) _ (all_at Spells (scripts_of scene) actor script.0 (scripts_spell scene lawful) script.1) fits.0)

@@ -7,13 +7,12 @@ use Rattle.kernel_types.specs.Opening.{opening}
 use Rattle.kernel_types.specs.Whole.{IsWholeHistory}
 use Rattle.report_text.specs.declared.form.Form.TheVariants.{History}
 use Rattle.report_text.specs.Forms.{report}
-use Rattle.report_text.specs.Within.{AreWithin}
 
 -- a history of the scene from its beginning to its end
 pub record IsHistoryOf (scene : SceneValue) (entries : List Entry) : Type 0 where
   pub legal : Legal (opening scene) entries
   pub whole : IsWholeHistory scene entries
 
--- where these entries are a history of the scene, the text is the report of no other one whose numbers are within their types
+-- where these entries are a history of the scene, the text is the report of no other one
 abbrev pub TellsOnly : SceneValue → List Entry → List ℕ → Type 0
-TellsOnly scene entries text = IsHistoryOf scene entries → (other : List Entry) → IsHistoryOf scene other → AreWithin other → text ≡ report scene other History → entries ≡ other
+TellsOnly scene entries text = IsHistoryOf scene entries → (other : List Entry) → IsHistoryOf scene other → text ≡ report scene other History → entries ≡ other
