@@ -13,4 +13,3 @@ mod RequestAndReply
 mod SenderBlocks
 mod SetInASet
 mod WaitKeepsItsNumber
-mod WaitedEndLives

@@ -1,4 +1,4 @@
--- A wait reports the number with which it began, also where that number was given anew.
+-- An end whose number is closed under a wait lives on, and the wait reports the number with which it began, also where that number was given anew.
 use Rattle.std.specs.Prelude.{◌≡◌, [], ◌∷◌, refl, codes}
 use Rattle.kernel_values.specs.declared.call.Timeout.TheVariants as timeout
 use Rattle.kernel_values.specs.declared.call.Call.TheVariants as call
