@@ -14,12 +14,13 @@ use Rattle.kernel_log.specs.Logs.{Log}
 use Rattle.kernel_values.specs.SceneLaw.{SceneValue}
 use Rattle.outside_io.specs.Faults.{Rose}
 use Rattle.outside_io.specs.Reading.{ReadsWhole}
+use Rattle.outside_io.specs.Writing.{AppendsFront}
 use Rattle.report_text.specs.Forms.{report}
 use Rattle.report_text.specs.declared.form.Form.{Form}
 use Rattle.runners.specs.Runs.{Carries, IsRunToEnd, IsRunToLimit, origin_of}
 use Rattle.scene_reader.specs.Whole.{scene_of}
 use Rattle.script_lines.specs.declared.fault.SceneFault.{SceneFault}
-use Rattle.trusty_main.specs.Answers.{AppendsSome, HasScene, IsEndless, IsReportOf, ReportsRun, Tells, Told}
+use Rattle.trusty_main.specs.Answers.{HasScene, IsEndless, IsReportOf, ReportsRun, Tells, Told}
 use Rattle.trusty_main.specs.Commanded.{AppendsSomeOf, GetsDueOf, HasCommand, IsDue, IsDueOfCheck, IsDueOfScene, IsDueOfThreads, IsReported, AppendsFrontOf, TellsSome, ToldOf, form_of, scene_text}
 use Rattle.trusty_main.specs.Due.{Due, due_of_run}
 use Rattle.trusty_main.specs.Plans.{command_by, outturn_of, plain_of, plan_of}
@@ -59,7 +60,7 @@ status_told due old new before now status.NoMemory tells written room = absurd (
 -- a front of what is due of the input
 
 abbrev pub Front : Command → (old new : Option (List ℕ)) → List ℕ → Type 0
-Front asked old new input = (due : Due) × IsDue asked input due × AppendsSome old new due.text
+Front asked old new input = (due : Due) × IsDue asked input due × AppendsFront old new due.text
 
 abbrev pub HasStatus : Command → Status → List ℕ → Type 0
 HasStatus asked result input = (due : Due) × IsDue asked input due × (result ≡ due.status)
@@ -102,12 +103,12 @@ module _ (asked : Command) (input : List ℕ) (old new : Option (List ℕ)) (bef
   endless_here (inr untold) is = let bad : result ≡ status.NoMemory = untold.0 in absurd (cc)
 
   fault_here : Gets asked input old new before now result → result ≡ status.WriteFault
-      → Rose before now × ((due : Due) × IsDue asked input due × AppendsSome old new due.text)
+      → Rose before now × ((due : Due) × IsDue asked input due × AppendsFront old new due.text)
   fault_here (inl (due, is_due, tells)) is = ((tells.write_fault is).0, (due, is_due, (tells.write_fault is).1))
   fault_here (inr untold) is = let bad : result ≡ status.NoMemory = untold.0 in absurd (cc)
 
   memory_here : Gets asked input old new before now result → result ≡ status.NoMemory
-      → Keeps old new ⊎ ((due : Due) × IsDue asked input due × AppendsSome old new due.text)
+      → Keeps old new ⊎ ((due : Due) × IsDue asked input due × AppendsFront old new due.text)
   memory_here (inl (due, is_due, tells)) is = inr (due, is_due, tells.no_memory is)
   memory_here (inr untold) is = inl untold.1
 

@@ -1,3 +1,4 @@
 pub mod Commanding
 pub mod Headline
 pub mod Reporting
+pub mod Untold

@@ -15,6 +15,7 @@ use Rattle.kernel_values.specs.declared.entry.EndFacts.{EndFacts}
 use Rattle.kernel_values.specs.declared.entry.Entry.{Entry}
 use Rattle.kernel_values.specs.declared.state.State.{State}
 use Rattle.outside_io.specs.Faults.{Rose}
+use Rattle.outside_io.specs.Writing.{AppendsFront}
 use Rattle.report_text.specs.Forms.{report, report_told}
 use Rattle.report_text.specs.Histories.{TellsOnly}
 use Rattle.report_text.specs.declared.form.Form.{Form}
@@ -98,22 +99,15 @@ pub record Told (due : Due) (told : Status) (old new : Option (List ℕ)) : Type
   pub status_is : due.status ≡ told
   pub appended : Appends old new due.text
 
--- a front of the text was appended: nothing, a part of it, or all
-pub record AppendsSome (old new : Option (List ℕ)) (text : List ℕ) : Type 0 where
-  pub front : List ℕ
-  pub rest : List ℕ
-  pub parts : text ≡ front ++ rest
-  pub appended : Appends old new front
-
--- What came of telling what is due.
+-- What came of telling what is due. Where a write failed or memory was wanted, a front of it was appended, but not all.
 pub record Tells (due : Due) (old new : Option (List ℕ)) (before now : ℕ) (result : Status) : Type 0 where
   pub done : result ≡ status.Done → Told due status.Done old new
   pub input_refused : result ≡ status.InputRefused → Told due status.InputRefused old new
   pub turn_refused : result ≡ status.TurnRefused → Told due status.TurnRefused old new
   pub history_refused : result ≡ status.HistoryRefused → Told due status.HistoryRefused old new
   pub run_too_long : result ≡ status.RunTooLong → Told due status.RunTooLong old new
-  pub write_fault : result ≡ status.WriteFault → Rose before now × AppendsSome old new due.text
-  pub no_memory : result ≡ status.NoMemory → AppendsSome old new due.text
+  pub write_fault : result ≡ status.WriteFault → Rose before now × AppendsFront old new due.text
+  pub no_memory : result ≡ status.NoMemory → AppendsFront old new due.text
   pub no_usage : result ≢ status.Usage
   pub no_read_fault : result ≢ status.ReadFault
   pub no_long_input : result ≢ status.InputTooLong

@@ -14,11 +14,12 @@ use Rattle.kernel_types.specs.Turns.{history_limit}
 use Rattle.kernel_types.specs.Whole.{FollowsScripts}
 use Rattle.kernel_values.specs.SceneLaw.{SceneValue, scripts_of}
 use Rattle.kernel_values.specs.declared.entry.Entry.{Entry}
+use Rattle.outside_io.specs.Writing.{AppendsFront}
 use Rattle.report_text.specs.Forms.{report}
 use Rattle.report_text.specs.declared.form.Form.{Form}
 use Rattle.scene_reader.specs.Whole.{scene_of}
 use Rattle.script_lines.specs.declared.fault.SceneFault.{SceneFault}
-use Rattle.trusty_main.specs.Answers.{AppendsSome, Crosses, IsReportOf, IsSequentialHistory, Tells, Told}
+use Rattle.trusty_main.specs.Answers.{Crosses, IsReportOf, IsSequentialHistory, Tells, Told}
 use Rattle.trusty_main.specs.Due.{Due, due_of_run, due_of_verdict}
 use Rattle.trusty_main.specs.Plans.{outturn_of}
 use Rattle.trusty_main.specs.Texts.{fault_text, too_long_text, usage_text}
@@ -74,12 +75,12 @@ abbrev pub HasCommand : Option Command → (Command → Type 0) → Type 0
 HasCommand None holds = ⊥
 HasCommand (Some command) holds = holds command
 
--- a front of something that is due was appended
+-- a front of something that is due was appended, but not all of it
 
 abbrev pub AppendsFrontOf : Option Command → Option (List ℕ) → (old new : Option (List ℕ)) → Type 0
-AppendsFrontOf None input old new = AppendsSome old new usage_text
+AppendsFrontOf None input old new = AppendsFront old new usage_text
 AppendsFrontOf (Some command) None old new = ⊤
-AppendsFrontOf (Some command) (Some input) old new = (due : Due) × IsDue command input due × AppendsSome old new due.text
+AppendsFrontOf (Some command) (Some input) old new = (due : Due) × IsDue command input due × AppendsFront old new due.text
 
 -- or nothing was
 abbrev pub AppendsSomeOf : Option Command → Option (List ℕ) → (old new : Option (List ℕ)) → Type 0

@@ -58,7 +58,8 @@ pub fn trusty_plain<S: Source, K: Sink>(
     ensures reported { result ≡ Status.Done → IfSome (plan_in (map string_bytes words.now)) (λ plan. IfSome (S.left source.old) (λ input. HasScene (scene_of input) (λ scene. ReportsRun plan.order plan.form scene (K.written sink.old) (K.written sink.new)))) }
     ensures endless { result ≡ Status.RunTooLong → IfSome (plan_in (map string_bytes words.now)) (λ plan. IfSome (S.left source.old) (λ input. HasScene (scene_of input) (λ scene. IsEndless plan.order scene))) }
 
-    // A fault is answered only where it came, and then at most a front of what is due was written.
+    // A fault is answered only where it came, and then a front of what is due was written, but not all of it; so where
+    // memory was wanted.
     ensures read_fault { result ≡ Status.ReadFault → Rose (S.faults source.old) (S.faults source.new) × Keeps (K.written sink.old) (K.written sink.new) }
     ensures write_fault { result ≡ Status.WriteFault → Rose (K.faults sink.old) (K.faults sink.new) × AppendsSomeOf (plain_in (map string_bytes words.now)) (S.left source.old) (K.written sink.old) (K.written sink.new) }
     ensures no_memory { result ≡ Status.NoMemory → AppendsSomeOf (plain_in (map string_bytes words.now)) (S.left source.old) (K.written sink.old) (K.written sink.new) }

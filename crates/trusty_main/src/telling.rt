@@ -3,10 +3,11 @@
 ghost use Rattle.std.specs.Prelude.{◌≡◌, ◌≢◌, ◌≤◌, ◌⊎◌, OnOk};
 ghost use Rattle.std.specs.Io.KnownBytes.{Appends};
 ghost use Rattle.outside_io.specs.Faults.{Rose};
+ghost use Rattle.outside_io.specs.Writing.{AppendsFront};
 ghost use Rattle.kernel_types.specs.Opening.{opening};
 ghost use Rattle.report_text.specs.Forms.{report};
 ghost use Rattle.report_text.specs.Printing.{Prints};
-ghost use Rattle.trusty_main.specs.Answers.{Tells, AppendsSome, IsReportOf};
+ghost use Rattle.trusty_main.specs.Answers.{Tells, IsReportOf};
 ghost use Rattle.trusty_main.specs.Texts.{usage_text, fault_text, turn_text, too_long_text, yes_text, no_text};
 
 use crate::status::Status;
@@ -22,7 +23,7 @@ use std::alloc::Global;
 /// The words are no command.
 pub fn tell_usage<K: Sink>(sink: &mut K) -> Status
     ensures usage { result ≡ Status.Usage → Appends (K.written sink.old) (K.written sink.new) usage_text }
-    ensures write_fault { result ≡ Status.WriteFault → Rose (K.faults sink.old) (K.faults sink.new) × AppendsSome (K.written sink.old) (K.written sink.new) usage_text }
+    ensures write_fault { result ≡ Status.WriteFault → Rose (K.faults sink.old) (K.faults sink.new) × AppendsFront (K.written sink.old) (K.written sink.new) usage_text }
     ensures only { (result ≡ Status.Usage) ⊎ (result ≡ Status.WriteFault) }
     ensures later { K.faults sink.old ≤ K.faults sink.new }
 {

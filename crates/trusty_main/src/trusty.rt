@@ -63,7 +63,8 @@ pub fn trusty<R: Threads + Wait + Sync, S: Source, K: Sink, H: Hook + Sync>(
         × IsAtEnd (S.left source.new) }
     ensures usage { result ≡ Status.Usage → (command_in (map string_bytes words.now) ≡ None) × Appends (K.written sink.old) (K.written sink.new) usage_text × (source.new ≡ source.old) }
 
-    // A fault is answered only where it came, and then at most a front of what is due was written.
+    // A fault is answered only where it came, and then a front of what is due was written, but not all of it; so where
+    // memory was wanted.
     ensures read_fault { result ≡ Status.ReadFault → Rose (S.faults source.old) (S.faults source.new) × Keeps (K.written sink.old) (K.written sink.new) }
     ensures write_fault { result ≡ Status.WriteFault → Rose (K.faults sink.old) (K.faults sink.new) × AppendsSomeOf (command_in (map string_bytes words.now)) (S.left source.old) (K.written sink.old) (K.written sink.new) }
     ensures no_memory { result ≡ Status.NoMemory → AppendsSomeOf (command_in (map string_bytes words.now)) (S.left source.old) (K.written sink.old) (K.written sink.new) }

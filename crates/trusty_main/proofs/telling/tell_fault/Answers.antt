@@ -1,0 +1,6 @@
+-- Where memory is wanted for the line, none of it was written.
+use Rattle.trusty_main.proofs.Untold.{untold_fault}
+use Rattle.trusty_main.proofs.telling.tell_fault.Goals as goal
+
+pub returns-in_default : goal.returns-in_default
+returns-in_default g c = record { tells = untold_fault _ _ _ }
