@@ -1,0 +1,5 @@
+pub mod Waiting
+pub mod Keeping
+pub mod Ends
+pub mod Marks
+pub mod Histories
