@@ -21,7 +21,8 @@ use Rattle.run_laws.proofs.Opening.{everyone_opened}
 use Rattle.run_laws.proofs.Standings.{Standings}
 use Rattle.wait_laws.specs.Cancelling.{BegunWait, cancels, is_activity_told, is_cancelled, is_thread_told, is_told, is_told_of}
 use Rattle.wait_laws.proofs.Ends.{end_cancels}
-use Rattle.wait_laws.proofs.Marks.{AllMarked, Marked, Woken, mapped, step_marks, woken}
+use Rattle.wait_laws.proofs.Marks.{AllMarked, Marked, step_marks}
+use Rattle.wait_laws.proofs.Turning.{Woken, mapped, woken}
 
 -- The step of a legal entry.
 

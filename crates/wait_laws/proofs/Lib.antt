@@ -1,5 +1,9 @@
 pub mod Waiting
 pub mod Keeping
+pub mod Turning
 pub mod Ends
 pub mod Marks
 pub mod Histories
+pub mod Calling
+pub mod ClientCalling
+pub mod Others

@@ -4,7 +4,7 @@ use Rattle.std.proofs.Common.{◌≡◌, ℕ, ◌==◌, Bool, true, false, cond,
 use Rattle.std.proofs.Math.Bool.{or-false}
 use Rattle.std.proofs.lemmas.Bool.{or_from}
 use Rattle.std.proofs.lemmas.List.Folds.{list_any-append}
-use Rattle.std.specs.Prelude.{◌||◌, slice_get}
+use Rattle.std.specs.Prelude.{◌||◌}
 use Rattle.std.specs.List.{list_any}
 use Rattle.std.specs.Option.{option_map}
 use Rattle.kernel_values.specs.declared.call.Call.{Call}
@@ -14,8 +14,6 @@ use Rattle.kernel_values.specs.declared.entry.Event.TheVariants as event
 use Rattle.kernel_values.specs.declared.entry.Seqs.{Seqs}
 use Rattle.kernel_values.specs.declared.reply.Answer.{Answer}
 use Rattle.kernel_values.specs.declared.reply.Answer.TheVariants as answer
-use Rattle.kernel_values.specs.declared.state.Activity.{Activity}
-use Rattle.kernel_values.specs.declared.state.Activity.TheVariants as activity
 use Rattle.kernel_values.specs.declared.state.CoreState.{CoreState}
 use Rattle.kernel_values.specs.declared.state.State.{State}
 use Rattle.kernel_values.specs.declared.state.Thread.{Thread}
@@ -24,14 +22,13 @@ use Rattle.kernel_types.proofs.Actors.{thread_is_thread}
 use Rattle.kernel_types.specs.Applications.{is_over}
 use Rattle.kernel_types.specs.Built.{is_built}
 use Rattle.kernel_types.specs.Clients.{Acted}
-use Rattle.kernel_types.specs.CoreStep.{act, begin_as, begin_of, core_begin, core_idle, core_resume, idle_answer, resume_as, resume_of, resumed, swept}
+use Rattle.kernel_types.specs.CoreStep.{act, core_begin, core_idle, core_resume, idle_answer}
 use Rattle.kernel_types.specs.Device.{DeviceStep, device_step}
 use Rattle.kernel_types.specs.History.{entry_of}
 use Rattle.kernel_types.specs.Outcome.{Outcome, no_seqs}
 use Rattle.kernel_types.specs.Step.{Stepped, begin, beside_core, client_begin, client_number, client_resume, device_stepped, full_step, idle, idle_lawful, in_world, is_thread, next_deadline, step}
 use Rattle.kernel_types.specs.Sweep.{sweep}
 use Rattle.kernel_types.specs.Threads.{running_activity, with_activity}
-use Rattle.kernel_types.specs.Waits.{end_of_wait}
 use Rattle.step_laws.proofs.Acting.{DoesIf, act_goes}
 use Rattle.step_laws.proofs.Leaving.{Quiet, sweep_leaves}
 use Rattle.step_laws.proofs.Outcomes.{Acts}
@@ -41,6 +38,7 @@ use Rattle.run_laws.proofs.Places.{same_number}
 use Rattle.wait_laws.specs.Cancelling.{BegunWait, cancels, is_entry_of, wait_entry}
 use Rattle.wait_laws.proofs.Keeping.{WaitsAfter, acts_after, device_waited, own_start, ran_not}
 use Rattle.wait_laws.proofs.Keeping.WaitsAfter.{began, waited}
+use Rattle.wait_laws.proofs.Turning.{Called, Woken, called, mapped, only_if, woken}
 use Rattle.wait_laws.proofs.Waiting.{IsWaiting, cancelled_waited, others_waited, running_never, same_waited}
 
 pub record Marked (entries : List Entry) (k start : ℕ) (wait : Wait) : Type 0 where
@@ -86,87 +84,6 @@ differ_by a b false is never = refl
 
 differ : (a b : ℕ) → (b ≡ a → ⊥) → (a == b) ≡ false
 differ a b never = differ_by a b (a == b) refl never
-
--- What a lawful step did.
-
-pub mapped : {X Y : Type 0} (f : X → Y) (o : Option X) (y : Y) → option_map f o ≡ Some y → (x : X) × (o ≡ Some x) × (y ≡ f x)
-mapped f None y h = absurd (cc)
-mapped f (Some x) y h = (x, refl, let same : y ≡ f x = cc in same)
-
-only_if : {X : Type 0} (b : Bool) (o : Option X) (x : X) → cond b o None ≡ Some x → (b ≡ true) × (o ≡ Some x)
-only_if true o x h = (refl, h)
-only_if false o x h = absurd (cc)
-
-pub record Called (c : CoreState) (k start : ℕ) (asked : Call) (outcome : Outcome) : Type 0 where
-  pub found : Thread
-  pub there : slice_get c.threads k ≡ Some found
-  pub ran : found.activity ≡ activity.Running start
-  pub inner : Outcome
-  pub done : act c k found.app asked ≡ Some inner
-  pub ends : outcome ≡ swept inner
-
-called_as : (c : CoreState) (k start : ℕ) (asked : Call) (outcome : Outcome) (found : Thread) → slice_get c.threads k ≡ Some found → (a : Activity) → found.activity ≡ a
-    → begin_as c k start asked found.app a ≡ Some outcome → Called c k start asked outcome
-called_as c k start asked outcome found there (activity.Running running) state is =
-    let now : ((running == start) ≡ true) × (option_map swept (act c k found.app asked) ≡ Some outcome) =
-    only_if (running == start) (option_map swept (act c k found.app asked)) outcome is in
-    let inner : (o : Outcome) × (act c k found.app asked ≡ Some o) × (outcome ≡ swept o) = mapped swept (act c k found.app asked) outcome now.1 in
-    record {
-      found = found;
-      there = there;
-      ran = state ∙ ap (λ n. activity.Running n) (same_number running start now.0);
-      inner = inner.0;
-      done = inner.1;
-      ends = inner.2;
-    }
-called_as c k start asked outcome found there activity.Off state is = absurd (cc)
-called_as c k start asked outcome found there (activity.Waiting since wait) state is = absurd (cc)
-called_as c k start asked outcome found there (activity.Ended since) state is = absurd (cc)
-
-called_of : (c : CoreState) (k start : ℕ) (asked : Call) (outcome : Outcome) (o : Option Thread) → slice_get c.threads k ≡ o → begin_of c k start asked o ≡ Some outcome
-    → Called c k start asked outcome
-called_of c k start asked outcome None there is = absurd (cc)
-called_of c k start asked outcome (Some found) there is = called_as c k start asked outcome found there found.activity refl is
-
-called : (c : CoreState) (k start : ℕ) (asked : Call) (outcome : Outcome) → core_begin c k start asked ≡ Some outcome → Called c k start asked outcome
-unfolding core_begin
-called c k start asked outcome is = called_of c k start asked outcome (slice_get c.threads k) refl is
-
-pub record Woken (c : CoreState) (k start : ℕ) (outcome : Outcome) : Type 0 where
-  pub found : Thread
-  pub there : slice_get c.threads k ≡ Some found
-  pub wait : Wait
-  pub waits : found.activity ≡ activity.Waiting start wait
-  pub inner : Outcome
-  pub done : end_of_wait c found.app wait ≡ Some inner
-  pub ends : outcome ≡ resumed k inner
-
-woken_as : (c : CoreState) (k start : ℕ) (outcome : Outcome) (found : Thread) → slice_get c.threads k ≡ Some found → (a : Activity) → found.activity ≡ a
-    → resume_as c k start found.app a ≡ Some outcome → Woken c k start outcome
-woken_as c k start outcome found there (activity.Waiting since wait) state is =
-    let now : ((since == start) ≡ true) × (option_map (resumed k) (end_of_wait c found.app wait) ≡ Some outcome) =
-    only_if (since == start) (option_map (resumed k) (end_of_wait c found.app wait)) outcome is in
-    let inner : (o : Outcome) × (end_of_wait c found.app wait ≡ Some o) × (outcome ≡ resumed k o) = mapped (resumed k) (end_of_wait c found.app wait) outcome now.1 in
-    record {
-      found = found;
-      there = there;
-      wait = wait;
-      waits = state ∙ ap (λ n. activity.Waiting n wait) (same_number since start now.0);
-      inner = inner.0;
-      done = inner.1;
-      ends = inner.2;
-    }
-woken_as c k start outcome found there activity.Off state is = absurd (cc)
-woken_as c k start outcome found there (activity.Running since) state is = absurd (cc)
-woken_as c k start outcome found there (activity.Ended since) state is = absurd (cc)
-
-woken_of : (c : CoreState) (k start : ℕ) (outcome : Outcome) (o : Option Thread) → slice_get c.threads k ≡ o → resume_of c k start o ≡ Some outcome → Woken c k start outcome
-woken_of c k start outcome None there is = absurd (cc)
-woken_of c k start outcome (Some found) there is = woken_as c k start outcome found there found.activity refl is
-
-pub woken : (c : CoreState) (k start : ℕ) (outcome : Outcome) → core_resume c k start ≡ Some outcome → Woken c k start outcome
-unfolding core_resume
-woken c k start outcome is = woken_of c k start outcome (slice_get c.threads k) refl is
 
 -- Steps.
 

@@ -76,3 +76,7 @@ is_told c thread = is_thread_told c (slice_get c.threads thread)
 abbrev pub is_cancelled : Answer → Bool
 is_cancelled (answer.Refuses errno.Cancelled) = true
 is_cancelled other = false
+
+abbrev pub is_end_of_wait : Event → Bool
+is_end_of_wait (event.Resume actor start) = true
+is_end_of_wait other = false
