@@ -1,18 +1,11 @@
 -- In every history each thread that waits is in a wait that began there, and the wait is cancelled exactly where an Idle cancelled all
 -- waits since.
-use Rattle.std.proofs.Common.{◌≡◌, ℕ, ◌==◌, Bool, true, false, cond, List, [], ◌∷◌, ◌++◌, Option, Some, None, refl, ap, sym, ◌∙◌, subst, append_assoc}
-use Rattle.std.proofs.Math.Bool.{or-false}
-use Rattle.std.proofs.lemmas.Bool.{or_from}
-use Rattle.std.proofs.lemmas.List.Folds.{list_any-append}
-use Rattle.std.specs.Prelude.{◌||◌}
-use Rattle.std.specs.List.{list_any}
+use Rattle.std.proofs.Common.{◌≡◌, ℕ, ◌==◌, Bool, true, false, cond, List, [], ◌∷◌, ◌++◌, Option, Some, None, refl, ap, sym, subst}
 use Rattle.std.specs.Option.{option_map}
 use Rattle.kernel_values.specs.declared.call.Call.{Call}
 use Rattle.kernel_values.specs.declared.entry.Entry.{Entry}
 use Rattle.kernel_values.specs.declared.entry.Event.{Event}
 use Rattle.kernel_values.specs.declared.entry.Event.TheVariants as event
-use Rattle.kernel_values.specs.declared.entry.Seqs.{Seqs}
-use Rattle.kernel_values.specs.declared.reply.Answer.{Answer}
 use Rattle.kernel_values.specs.declared.reply.Answer.TheVariants as answer
 use Rattle.kernel_values.specs.declared.state.CoreState.{CoreState}
 use Rattle.kernel_values.specs.declared.state.State.{State}
@@ -34,61 +27,17 @@ use Rattle.step_laws.proofs.Leaving.{Quiet, sweep_leaves}
 use Rattle.step_laws.proofs.Outcomes.{Acts}
 use Rattle.step_laws.proofs.Steps.{acting, none_yet}
 use Rattle.step_laws.proofs.TurnLeaving.{quiet_end}
-use Rattle.run_laws.proofs.Places.{same_number}
-use Rattle.wait_laws.specs.Cancelling.{BegunWait, cancels, is_entry_of, wait_entry}
 use Rattle.wait_laws.proofs.Keeping.{WaitsAfter, acts_after, device_waited, own_start, ran_not}
 use Rattle.wait_laws.proofs.Keeping.WaitsAfter.{began, waited}
+use Rattle.run_laws.proofs.Longer.{entry_with}
+use Rattle.wait_laws.proofs.Marking.{Marked, began_marked, cancelling, differ, silent}
 use Rattle.wait_laws.proofs.Turning.{Called, Woken, called, mapped, only_if, woken}
 use Rattle.wait_laws.proofs.Waiting.{IsWaiting, cancelled_waited, others_waited, running_never, same_waited}
 
-pub record Marked (entries : List Entry) (k start : ℕ) (wait : Wait) : Type 0 where
-  pub begun : BegunWait k start entries
-  pub mark : wait.cancelled ≡ list_any cancels begun.since
-
 abbrev pub AllMarked : List Entry → List Thread → Type 0
-AllMarked entries threads = (k start : ℕ) (wait : Wait) → IsWaiting threads k start wait → Marked entries k start wait
-
--- One more entry, which is not of the thread.
-
-longer : (entries : List Entry) (entry : Entry) (k start : ℕ) (was wait : Wait) → is_entry_of k entry ≡ false → wait.cancelled ≡ (was.cancelled || cancels entry)
-    → Marked entries k start was → Marked (entries ++ entry ∷ []) k start wait
-longer entries entry k start was wait apart mark m =
-    let b : BegunWait k start entries = m.begun in
-    record {
-      begun = record {
-        before = b.before;
-        asked = b.asked;
-        seqs = b.seqs;
-        since = b.since ++ entry ∷ [];
-        parts = ap (λ es. es ++ entry ∷ []) b.parts ∙ append_assoc b.before (wait_entry k start b.asked b.seqs ∷ b.since) (entry ∷ []);
-        alone = list_any-append (is_entry_of k) b.since (entry ∷ [])
-            ∙ or_from (list_any (is_entry_of k) b.since) (list_any (is_entry_of k) (entry ∷ [])) b.alone (or_from (is_entry_of k entry) false apart refl);
-      };
-      mark = mark ∙ (ap (λ x. x || cancels entry) m.mark
-          ∙ sym (list_any-append cancels b.since (entry ∷ []) ∙ ap (λ x. list_any cancels b.since || x) (or-false (cancels entry))));
-    }
-
--- which cancels nothing
-silent : (entries : List Entry) (entry : Entry) (k start : ℕ) (wait : Wait) → is_entry_of k entry ≡ false → cancels entry ≡ false → Marked entries k start wait
-    → Marked (entries ++ entry ∷ []) k start wait
-silent entries entry k start wait apart none m =
-    longer entries entry k start wait wait apart (sym (ap (λ x. wait.cancelled || x) none ∙ or-false wait.cancelled)) m
-
-or_true : (b : Bool) → (b || true) ≡ true
-or_true true = refl
-or_true false = refl
-
-differ_by : (a b : ℕ) (same : Bool) → (a == b) ≡ same → (b ≡ a → ⊥) → same ≡ false
-differ_by a b true is never = absurd (never (sym (same_number a b is)))
-differ_by a b false is never = refl
-
-differ : (a b : ℕ) → (b ≡ a → ⊥) → (a == b) ≡ false
-differ a b never = differ_by a b (a == b) refl never
+AllMarked entries threads = (k start : ℕ) (wait : Wait) → IsWaiting threads k start wait → Marked entries k start wait.cancelled
 
 -- Steps.
-
-abbrev entry_with : Event → Answer → Seqs → Entry
-entry_with e given seqs = record { event = e; answer = given; seqs = seqs }
 
 module _ (entries : List Entry) (s : State) (old : AllMarked entries s.core.threads) where
   -- of a thread
@@ -98,32 +47,18 @@ module _ (entries : List Entry) (s : State) (old : AllMarked entries s.core.thre
   acts_of k start asked outcome b None is does = absurd (cc)
   acts_of k start asked outcome b (Some found) is does = subst (λ (x : Outcome). Acts b.found.app k asked s.core x) (let same : found ≡ b.inner = cc in same) does
 
-  began_marked : (k start : ℕ) (asked : Call) (inner : Outcome) → inner.answer ≡ answer.Waits → (wait : Wait) → wait.cancelled ≡ false
-      → Marked (entries ++ entry_with (event.Begin (record { 0 = k }) start asked) inner.answer inner.seqs ∷ []) k start wait
-  began_marked k start asked inner said wait unmarked = record {
-    begun = record {
-      before = entries;
-      asked = asked;
-      seqs = inner.seqs;
-      since = [];
-      parts = ap (λ (given : Answer). entries ++ entry_with (event.Begin (record { 0 = k }) start asked) given inner.seqs ∷ []) said;
-      alone = refl;
-    };
-    mark = unmarked;
-  }
-
   after_marked : (k start : ℕ) (asked : Call) (outcome : Outcome) (b : Called s.core k start asked outcome) (j since : ℕ) (wait : Wait) → IsWaiting b.inner.core.threads j since wait
-      → WaitsAfter s.core k b.inner.answer j since wait → Marked (entries ++ entry_with (event.Begin (record { 0 = k }) start asked) b.inner.answer b.inner.seqs ∷ []) j since wait
+      → WaitsAfter s.core k b.inner.answer j since wait → Marked (entries ++ entry_with (event.Begin (record { 0 = k }) start asked) b.inner.answer b.inner.seqs ∷ []) j since wait.cancelled
   after_marked k start asked outcome b j since wait now (waited w) =
-      silent entries (entry_with (event.Begin (record { 0 = k }) start asked) b.inner.answer b.inner.seqs) j since wait
+      silent entries (entry_with (event.Begin (record { 0 = k }) start asked) b.inner.answer b.inner.seqs) j since wait.cancelled
       (differ k j (λ same. ran_not s.core k start b.found b.there b.ran since wait (subst (λ n. IsWaiting s.core.threads n since wait) same w)))
       refl (old j since wait w)
   after_marked k start asked outcome b j since wait now (began place said unmarked) =
       let entry : Entry = entry_with (event.Begin (record { 0 = k }) start asked) b.inner.answer b.inner.seqs in
       let by : since ≡ start = own_start s.core k start b.found b.there b.ran b.found.app asked b.inner b.done said since wait
       (subst (λ n. IsWaiting b.inner.core.threads n since wait) place now) in
-      subst (λ n. Marked (entries ++ entry ∷ []) n since wait) (sym place)
-      (subst (λ n. Marked (entries ++ entry ∷ []) k n wait) (sym by) (began_marked k start asked b.inner said wait unmarked))
+      subst (λ n. Marked (entries ++ entry ∷ []) n since wait.cancelled) (sym place)
+      (subst (λ n. Marked (entries ++ entry ∷ []) k n wait.cancelled) (sym by) (began_marked entries k start asked b.inner.answer b.inner.seqs said wait.cancelled unmarked))
 
   begin_marked : (k start : ℕ) (asked : Call) (outcome : Outcome) → Called s.core k start asked outcome
       → AllMarked (entries ++ entry_with (event.Begin (record { 0 = k }) start asked) outcome.answer outcome.seqs ∷ []) outcome.core.threads
@@ -143,7 +78,7 @@ module _ (entries : List Entry) (s : State) (old : AllMarked entries s.core.thre
       let q : Quiet s.core b.inner.core = quiet_end s.core b.found.app b.wait b.inner b.done in
       let others : (j ≡ k → ⊥) × IsWaiting b.inner.core.threads j since wait = others_waited running_activity running_never b.inner.core.threads k j since wait
       (same_waited runs.threads (sweep runs).threads (sweep_leaves runs).threads j since wait w) in
-      silent entries (entry_with (event.Resume (record { 0 = k }) start) b.inner.answer b.inner.seqs) j since wait (differ k j others.0) refl
+      silent entries (entry_with (event.Resume (record { 0 = k }) start) b.inner.answer b.inner.seqs) j since wait.cancelled (differ k j others.0) refl
       (old j since wait (same_waited s.core.threads b.inner.core.threads q.threads j since wait others.1)))
 
   -- of a client, which is no thread
@@ -154,12 +89,12 @@ module _ (entries : List Entry) (s : State) (old : AllMarked entries s.core.thre
   client_begin_marked : (k start : ℕ) (asked : Call) (acted : Acted) → is_thread s k ≡ false
       → AllMarked (entries ++ entry_with (event.Begin (record { 0 = k }) start asked) acted.answer no_seqs ∷ []) s.core.threads
   client_begin_marked k start asked acted none j since wait w =
-      silent entries (entry_with (event.Begin (record { 0 = k }) start asked) acted.answer no_seqs) j since wait (no_thread k j since wait none w) refl (old j since wait w)
+      silent entries (entry_with (event.Begin (record { 0 = k }) start asked) acted.answer no_seqs) j since wait.cancelled (no_thread k j since wait none w) refl (old j since wait w)
 
   client_resume_marked : (k start : ℕ) (acted : Acted) → is_thread s k ≡ false
       → AllMarked (entries ++ entry_with (event.Resume (record { 0 = k }) start) acted.answer no_seqs ∷ []) s.core.threads
   client_resume_marked k start acted none j since wait w =
-      silent entries (entry_with (event.Resume (record { 0 = k }) start) acted.answer no_seqs) j since wait (no_thread k j since wait none w) refl (old j since wait w)
+      silent entries (entry_with (event.Resume (record { 0 = k }) start) acted.answer no_seqs) j since wait.cancelled (no_thread k j since wait none w) refl (old j since wait w)
 
   -- of whoever acts
 
@@ -194,17 +129,17 @@ module _ (entries : List Entry) (s : State) (old : AllMarked entries s.core.thre
   device_by r is =
       let out : (done : DeviceStep) × (device_step s ≡ Some done) × (r ≡ device_stepped done) = mapped device_stepped (device_step s) r is in
       subst (λ (x : Stepped). Marks event.Device x) (sym out.2) (λ j since wait w.
-      silent entries (entry_of event.Device (device_stepped out.0)) j since wait refl refl (old j since wait (device_waited s out.0 out.1 j since wait w)))
+      silent entries (entry_of event.Device (device_stepped out.0)) j since wait.cancelled refl refl (old j since wait (device_waited s out.0 out.1 j since wait w)))
 
   -- and Idle
 
   idle_marked : (deadline : Option ℕ) (j since : ℕ) (wait : Wait) → IsWaiting (core_idle deadline s.core).threads j since wait
-      → Marked (entries ++ entry_with event.Idle (idle_answer deadline) no_seqs ∷ []) j since wait
+      → Marked (entries ++ entry_with event.Idle (idle_answer deadline) no_seqs ∷ []) j since wait.cancelled
   unfolding core_idle
-  idle_marked (Some deadline) j since wait w = silent entries (entry_with event.Idle (answer.Clock deadline) no_seqs) j since wait refl refl (old j since wait w)
+  idle_marked (Some deadline) j since wait w = silent entries (entry_with event.Idle (answer.Clock deadline) no_seqs) j since wait.cancelled refl refl (old j since wait w)
   idle_marked None j since wait w =
       let from : (was : Wait) × IsWaiting s.core.threads j since was × (wait.cancelled ≡ true) = cancelled_waited s.core.threads j since wait w in
-      longer entries (entry_with event.Idle answer.CancelAll no_seqs) j since from.0 wait refl (from.2 ∙ sym (or_true from.0.cancelled)) (old j since from.0 from.1)
+      cancelling entries (entry_with event.Idle answer.CancelAll no_seqs) j since from.0.cancelled wait.cancelled refl refl from.2 (old j since from.0 from.1)
 
   idle_by : (r : Stepped) → cond (idle_lawful s) (Some (idle s)) None ≡ Some r → Marks event.Idle r
   idle_by r is =

@@ -16,8 +16,16 @@ use Rattle.kernel_values.specs.declared.state.CoreState.{CoreState}
 use Rattle.kernel_values.specs.declared.state.Thread.{Thread}
 use Rattle.kernel_values.specs.declared.state.WaitOn.{WaitOn}
 use Rattle.kernel_values.specs.declared.state.WaitOn.TheVariants as wait_on
+use Rattle.kernel_values.specs.declared.state.State.{State}
+use Rattle.kernel_values.specs.declared.world.ClientActivity.{ClientActivity}
+use Rattle.kernel_values.specs.declared.world.ClientActivity.TheVariants as client_activity
+use Rattle.kernel_values.specs.declared.world.ClientState.{ClientState}
+use Rattle.kernel_values.specs.declared.world.World.{World}
+use Rattle.kernel_types.specs.Clients.{answer_of_wait}
 use Rattle.kernel_types.specs.Connects.{connect_decision}
+use Rattle.kernel_types.specs.Drains.{drained}
 use Rattle.kernel_types.specs.Reports.{report_of}
+use Rattle.kernel_types.specs.Step.{client_number}
 
 -- an entry of this actor: a call that it began, or the end of its wait
 abbrev pub is_event_of : ℕ → Event → Bool
@@ -44,15 +52,15 @@ cancels entry = is_idle entry.event && is_cancel_all entry.answer
 -- The wait in which an actor is after these entries: it began with a call by this start, whose answer was that it waits, and
 -- no entry of the actor came since.
 
-abbrev pub wait_entry : ℕ → ℕ → Call → Seqs → Entry
-wait_entry actor start asked seqs = record { event = event.Begin (record { 0 = actor }) start asked; answer = answer.Waits; seqs = seqs }
+abbrev pub waiting_entry : ℕ → ℕ → Call → Seqs → Entry
+waiting_entry actor start asked seqs = record { event = event.Begin (record { 0 = actor }) start asked; answer = answer.Waits; seqs = seqs }
 
 pub record BegunWait (actor start : ℕ) (entries : List Entry) : Type 0 where
   pub before : List Entry
   pub asked : Call
   pub seqs : Seqs
   pub since : List Entry
-  pub parts : entries ≡ before ++ wait_entry actor start asked seqs ∷ since
+  pub parts : entries ≡ before ++ waiting_entry actor start asked seqs ∷ since
   pub alone : list_any (is_entry_of actor) since ≡ false
 
 -- Whether something is reported to the wait of a thread, or its connect is decided, be it cancelled or not.
@@ -72,6 +80,19 @@ is_thread_told c (Some thread) = is_activity_told c thread.app thread.activity
 
 abbrev pub is_told : CoreState → ℕ → Bool
 is_told c thread = is_thread_told c (slice_get c.threads thread)
+
+-- Whether the wait of a client has its answer from the other side, in the drained world.
+
+abbrev pub is_client_activity_told : World → ClientActivity → Bool
+is_client_activity_told w (client_activity.Waiting start wait) = is_some (answer_of_wait wait.on (drained w))
+is_client_activity_told w other = false
+
+abbrev pub is_state_told : World → Option ClientState → Bool
+is_state_told w None = false
+is_state_told w (Some client) = is_client_activity_told w client.activity
+
+abbrev pub is_client_told : State → ℕ → Bool
+is_client_told s actor = is_state_told s.world (slice_get s.world.clients (client_number s actor))
 
 abbrev pub is_cancelled : Answer → Bool
 is_cancelled (answer.Refuses errno.Cancelled) = true
