@@ -1,0 +1,11 @@
+pub mod Waiting
+pub mod Keeping
+pub mod Turning
+pub mod Ends
+pub mod Marking
+pub mod Marks
+pub mod Histories
+pub mod Calling
+pub mod ClientCalling
+pub mod Others
+pub mod ClientMarks
