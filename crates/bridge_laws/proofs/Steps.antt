@@ -19,7 +19,7 @@ use Rattle.kernel_types.specs.Limits.{Room, full_room, room_of_call}
 use Rattle.kernel_types.specs.Names.{Name, naming}
 use Rattle.kernel_types.specs.Opening.{opening}
 use Rattle.kernel_types.specs.Outcome.{Outcome}
-use Rattle.kernel_types.specs.Step.{Stepped, beside_core, client_begin, client_number, client_resume, device_stepped, full_step, idle, idle_lawful, in_world, is_built_event, is_thread, next_deadline, step, world_idle}
+use Rattle.kernel_types.specs.Step.{Stepped, beside_core, client_begin, client_number, client_resume, device_stepped, step, idle, idle_lawful, in_world, is_thread, next_deadline, world_idle}
 use Rattle.kernel_laws.proofs.Worlds.{ActsIf, begin_acts, resume_acts}
 use Rattle.set_laws.specs.Soundness.{NamesAreGiven}
 use Rattle.set_laws.proofs.Soundness.{openings_given, steps_keep_given}
@@ -66,26 +66,22 @@ module _ (s : State) (given : NamesAreGiven s.core) (k : IsBridged s) where
       subst (λ (ends : List ℕ). Bridged ends (world_idle (next_deadline s) s.world).device.entries) (sym ((sweep_leaves (core_idle (next_deadline s) s.core)).bridged ∙ idle_leaves s.core (next_deadline s)))
       (subst (λ (d : Device). Bridged s.core.bridged d.entries) (sym (idle_device (next_deadline s) s.world)) k)
 
-  full_step_bridged : (ev : Event) → IfBridged (full_step s ev)
-  unfolding full_step
-  full_step_bridged (event.Begin actor start asked) =
+  step_bridged : (ev : Event) → IfBridged (step s ev)
+  unfolding step
+  step_bridged (event.Begin actor start asked) =
       elim (is_thread s actor.0)
       as (λ b. IfBridged (cond b (option_map (in_world s.world) (core_begin s.core actor.0 start asked)) (option_map (beside_core s.core) (client_begin s (client_number s actor.0) start asked)))) [
         | true ↦ thread_bridged (core_begin s.core actor.0 start asked) (begin_leaves s.core actor.0 start asked)
         | false ↦ client_bridged (room_of_call asked) (client_begin s (client_number s actor.0) start asked) (begin_acts s (client_number s actor.0) start asked)
       ]
-  full_step_bridged (event.Resume actor start) =
+  step_bridged (event.Resume actor start) =
       elim (is_thread s actor.0)
       as (λ b. IfBridged (cond b (option_map (in_world s.world) (core_resume s.core actor.0 start)) (option_map (beside_core s.core) (client_resume s (client_number s actor.0) start)))) [
         | true ↦ thread_bridged (core_resume s.core actor.0 start) (resume_leaves s.core actor.0 start)
         | false ↦ client_bridged full_room (client_resume s (client_number s actor.0) start) (resume_acts s (client_number s actor.0) start)
       ]
-  full_step_bridged event.Device = device_bridged (device_step s) (device_bridges s (given_ends s.core given) k)
-  full_step_bridged event.Idle = elim (idle_lawful s) as (λ b. IfBridged (cond b (Some (idle s)) None)) [ true ↦ idle_bridged | false ↦ tt ]
-
-  step_bridged : (ev : Event) → IfBridged (step s ev)
-  unfolding step
-  step_bridged ev = elim (is_built_event ev) as (λ b. IfBridged (cond b (full_step s ev) None)) [ true ↦ full_step_bridged ev | false ↦ tt ]
+  step_bridged event.Device = device_bridged (device_step s) (device_bridges s (given_ends s.core given) k)
+  step_bridged event.Idle = elim (idle_lawful s) as (λ b. IfBridged (cond b (Some (idle s)) None)) [ true ↦ idle_bridged | false ↦ tt ]
 
 -- Histories. Where an event is not lawful, the state stays.
 

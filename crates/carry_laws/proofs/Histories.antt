@@ -59,12 +59,12 @@ kinds_long threads clients =
     ∙ ap (λ n. n + length (map of_client clients)) (length-map threads (λ (thread : Thread). Some thread.app))
     ∙ ap (λ n. length threads + n) (length-map clients of_client)
 
-pub record Fits (scene : SceneValue) (s : State) : Type 0 where
+pub record IsOfScene (scene : SceneValue) (s : State) : Type 0 where
   pub threads : length s.core.threads ≡ length (flat_map (λ app. app.threads) scene.apps)
   pub clients : length s.world.clients ≡ length scene.clients
   pub within : IsWithinLimits s
 
-fits_on : (scene : SceneValue) (s : State) (e : Event) (r : Stepped) → Fits scene s → step s e ≡ Some r → Fits scene r.state
+fits_on : (scene : SceneValue) (s : State) (e : Event) (r : Stepped) → IsOfScene scene s → step s e ≡ Some r → IsOfScene scene r.state
 fits_on scene s e r fits is =
     let same : HasSameActors s r.state = steps_keep s e r is in
     let threads : length r.state.core.threads ≡ length s.core.threads =
@@ -85,7 +85,7 @@ threads_from n (app ∷ apps) =
     ∙ ap (λ len. length app.threads + len) (threads_from (n + 1) apps)
     ∙ sym (length-append app.threads (flat_map (λ (other : App). other.threads) apps))
 
-opening_fits : (scene : SceneValue) → Fits scene (opening scene)
+opening_fits : (scene : SceneValue) → IsOfScene scene (opening scene)
 unfolding opening
 opening_fits scene = record { threads = threads_from 0 scene.apps; clients = length-map scene.clients opening_client; within = opening_within scene }
 
@@ -104,7 +104,7 @@ found_below [] at lt = absurd (omega arith)
 found_below (x ∷ xs) zero lt = (x, refl)
 found_below (x ∷ xs) (suc at) lt = found_below xs at (omega arith)
 
-honest_event : (scene : SceneValue) (s : State) (e : Event) → Fits scene s → IsHonestEntry scene e → IsHonestEvent s e
+honest_event : (scene : SceneValue) (s : State) (e : Event) → IsOfScene scene s → IsHonestEntry scene e → IsHonestEvent s e
 honest_event scene s (event.Begin actor start asked) fits honest =
     λ client state found.
     let behind : length s.core.threads ≤ actor.0 = ltb-false actor.0 (length s.core.threads) client in
@@ -132,14 +132,14 @@ joined a o t b os ts z one two =
 
 pub record Stepping (sent gave : List (List ℕ)) (scene : SceneValue) (s : State) (e : Event) (next : State) : Type 0 where
   pub moved : Moved sent gave (offered_in s e) (taken_in s e) (given_in s e) (drained_in s e) next.world
-  pub fits : Fits scene next
+  pub fits : IsOfScene scene next
 
 stepping : (sent gave : List (List ℕ)) (scene : SceneValue) (s : State) (e : Event) (entry : Entry) (o : Option Stepped) → option_map (entry_of e) o ≡ Some entry
-    → Moves sent gave s e o → ((r : Stepped) → o ≡ Some r → Fits scene r.state) → Stepping sent gave scene s e (state_or s o)
+    → Moves sent gave s e o → ((r : Stepped) → o ≡ Some r → IsOfScene scene r.state) → Stepping sent gave scene s e (state_or s o)
 stepping sent gave scene s e entry None is moves fits = absurd (cc)
 stepping sent gave scene s e entry (Some r) is moves fits = record { moved = moves; fits = fits r refl }
 
-went : (scene : SceneValue) (sent gave : List (List ℕ)) (s : State) (entries : List Entry) → Carrying s.world sent gave → Fits scene s → Legal s entries
+went : (scene : SceneValue) (sent gave : List (List ℕ)) (s : State) (entries : List Entry) → Carrying s.world sent gave → IsOfScene scene s → Legal s entries
     → AllOf (λ entry. IsHonestEntry scene entry.event) entries → Went sent gave s entries
 went scene sent gave s [] c fits legal honest = record { sent_on = sent; gave_on = gave; carries = c; to_device = append-nil sent; to_driver = append-nil gave }
 went scene sent gave s (entry ∷ entries) c fits legal honest =

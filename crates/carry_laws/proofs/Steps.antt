@@ -11,13 +11,14 @@ use Rattle.kernel_values.specs.declared.world.ClientActivity.{ClientActivity}
 use Rattle.kernel_values.specs.declared.world.ClientActivity.TheVariants as activity
 use Rattle.kernel_values.specs.declared.world.ClientState.{ClientState}
 use Rattle.kernel_values.specs.declared.world.World.{World}
-use Rattle.kernel_types.specs.Carried.{one_if, client_frame, where_done, given_frame, taken_frame, offered_in, drained_in, given_in, taken_in, is_honest_call}
-use Rattle.kernel_types.specs.Clients.{Acted, drains, end_of_ns_wait, ns_act}
+use Rattle.kernel_types.specs.Carried.{one_if, client_frame, where_done, given_frame, taken_frame, offered_in, drained_in, given_in, taken_in}
+use Rattle.kernel_values.specs.CallKinds.{is_honest_call, drains}
+use Rattle.kernel_types.specs.Clients.{Acted, end_of_ns_wait, ns_act}
 use Rattle.kernel_types.specs.CoreStep.{core_begin, core_resume}
 use Rattle.kernel_types.specs.Device.{DeviceStep, device_step}
 use Rattle.kernel_types.specs.Drains.{drained, drained_frames}
 use Rattle.kernel_types.specs.Outcome.{Outcome}
-use Rattle.kernel_types.specs.Step.{Stepped, in_world, beside_core, client_begin, client_call_as, client_call_of, client_number, client_resume, client_resume_as, client_resume_of, device_stepped, full_step, idle, idle_lawful, is_built_event, is_thread, next_deadline, runs_again, step, world_idle}
+use Rattle.kernel_types.specs.Step.{Stepped, in_world, beside_core, client_begin, client_call_as, client_call_of, client_number, client_resume, client_resume_as, client_resume_of, device_stepped, step, idle, idle_lawful, is_thread, next_deadline, runs_again, world_idle}
 use Rattle.carry_laws.proofs.Calls.{ActsAs, IfActs, call_acts, wait_ends, with_clients}
 use Rattle.carry_laws.proofs.Carrying.{Carrying, drained_carries}
 use Rattle.carry_laws.proofs.Dues.{AreWithin}
@@ -122,23 +123,18 @@ device_moved : (sent gave : List (List ℕ)) (s : State) (o : Option DeviceStep)
 device_moved sent gave s None is = tt
 device_moved sent gave s (Some done) is = is
 
-full_moves : (sent gave : List (List ℕ)) (s : State) (e : Event) → Carrying s.world sent gave → AreWithin s.core → IsHonestEvent s e → Moves sent gave s e (full_step s e)
-unfolding full_step offered_in taken_in given_in drained_in
-full_moves sent gave s (event.Begin actor start asked) c w honest =
+-- a step moves what is on its way on
+pub step_moves : (sent gave : List (List ℕ)) (s : State) (e : Event) → Carrying s.world sent gave → AreWithin s.core → IsHonestEvent s e → Moves sent gave s e (step s e)
+unfolding step offered_in taken_in given_in drained_in
+step_moves sent gave s (event.Begin actor start asked) c w honest =
     by_actor sent gave s (is_thread s actor.0) (drains asked) (core_begin s.core actor.0 start asked) (client_begin s (client_number s actor.0) start asked) c
     (drained_carries s.world sent gave c).0 (λ client. begun sent gave s (client_number s actor.0) start asked c (honest client))
-full_moves sent gave s (event.Resume actor start) c w honest =
+step_moves sent gave s (event.Resume actor start) c w honest =
     by_actor sent gave s (is_thread s actor.0) true (core_resume s.core actor.0 start) (client_resume s (client_number s actor.0) start) c
     (drained_carries s.world sent gave c).0 (λ client. ended sent gave s (client_number s actor.0) start c)
-full_moves sent gave s event.Device c w honest = device_moved sent gave s (device_step s) (device_moves sent gave s c w)
-full_moves sent gave s event.Idle c w honest =
+step_moves sent gave s event.Device c w honest = device_moved sent gave s (device_step s) (device_moves sent gave s c w)
+step_moves sent gave s event.Idle c w honest =
     elim (idle_lawful s) as (λ b. IfMoved sent gave [] [] [] [] (cond b (Some (idle s)) None)) [
       | true ↦ still sent gave (world_idle (next_deadline s) s.world) (idles sent gave (next_deadline s) s.world c)
       | false ↦ tt
     ]
-
--- a step moves what is on its way on
-pub step_moves : (sent gave : List (List ℕ)) (s : State) (e : Event) → Carrying s.world sent gave → AreWithin s.core → IsHonestEvent s e → Moves sent gave s e (step s e)
-unfolding step
-step_moves sent gave s e c w honest =
-    elim (is_built_event e) as (λ b. Moves sent gave s e (cond b (full_step s e) None)) [ true ↦ full_moves sent gave s e c w honest | false ↦ tt ]

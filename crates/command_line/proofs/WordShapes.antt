@@ -7,24 +7,24 @@ use Rattle.clap.specs.Lexer.{long_of, short_of}
 use Rattle.command_line.specs.Words.{Word, ends, form_follows, form, unknown, positional, word_of, is_option}
 
 -- what the tests of `word_of` told
-abbrev pub Told : Bool → Bool → Bool → Bool → List ℕ → Word → Type 0
-Told is_end is_form has_form is_other value ends = is_end ≡ true
-Told is_end is_form has_form is_other value form_follows = is_form ≡ true
-Told is_end is_form has_form is_other value (form given) = (has_form ≡ true) × (given ≡ value)
-Told is_end is_form has_form is_other value unknown = (is_end ≡ false) × (is_form ≡ false) × (has_form ≡ false) × (is_other ≡ true)
-Told is_end is_form has_form is_other value positional = (is_end ≡ false) × (is_other ≡ false)
+abbrev pub IsReadAs : Bool → Bool → Bool → Bool → List ℕ → Word → Type 0
+IsReadAs is_end is_form has_form is_other value ends = is_end ≡ true
+IsReadAs is_end is_form has_form is_other value form_follows = is_form ≡ true
+IsReadAs is_end is_form has_form is_other value (form given) = (has_form ≡ true) × (given ≡ value)
+IsReadAs is_end is_form has_form is_other value unknown = (is_end ≡ false) × (is_form ≡ false) × (has_form ≡ false) × (is_other ≡ true)
+IsReadAs is_end is_form has_form is_other value positional = (is_end ≡ false) × (is_other ≡ false)
 
 told : (is_end is_form has_form is_other : Bool) (value : List ℕ) (kind : Word)
     → (if is_end then ends else if is_form then form_follows else if has_form then form value else if is_other then unknown else positional) ≡ kind
-    → Told is_end is_form has_form is_other value kind
-told true is_form has_form is_other value kind e = subst (λ k. Told true is_form has_form is_other value k) e refl
-told false true has_form is_other value kind e = subst (λ k. Told false true has_form is_other value k) e refl
-told false false true is_other value kind e = subst (λ k. Told false false true is_other value k) e (refl, refl)
-told false false false true value kind e = subst (λ k. Told false false false true value k) e (refl, refl, refl, refl)
-told false false false false value kind e = subst (λ k. Told false false false false value k) e (refl, refl)
+    → IsReadAs is_end is_form has_form is_other value kind
+told true is_form has_form is_other value kind e = subst (λ k. IsReadAs true is_form has_form is_other value k) e refl
+told false true has_form is_other value kind e = subst (λ k. IsReadAs false true has_form is_other value k) e refl
+told false false true is_other value kind e = subst (λ k. IsReadAs false false true is_other value k) e (refl, refl)
+told false false false true value kind e = subst (λ k. IsReadAs false false false true value k) e (refl, refl, refl, refl)
+told false false false false value kind e = subst (λ k. IsReadAs false false false false value k) e (refl, refl)
 
 pub word_told : (word : List ℕ) (kind : Word) → word_of word ≡ kind
-    → Told (bytes_eq word (codes "--")) (bytes_eq word (codes "--form")) (bytes_eq (take 7 word) (codes "--form=")) (is_option word) (drop 7 word) kind
+    → IsReadAs (bytes_eq word (codes "--")) (bytes_eq word (codes "--form")) (bytes_eq (take 7 word) (codes "--form=")) (is_option word) (drop 7 word) kind
 word_told word kind e = told _ _ _ _ _ kind e
 
 pub same_bytes : (xs ys : List ℕ) → bytes_eq xs ys ≡ true → xs ≡ ys

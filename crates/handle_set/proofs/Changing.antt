@@ -10,7 +10,7 @@ use Rattle.std.proofs.lemmas.List.{map-set}
 use Rattle.std.proofs.lemmas.List.Folds.{find_at}
 use Rattle.kernel_values.specs.declared.flags.Events.{Events}
 use Rattle.object_store.specs.declared.key.ObjKey.{ObjKey}
-use Rattle.handle_set.specs.declared.records.Told.{Told}
+use Rattle.handle_set.specs.declared.records.TrackedMember.{TrackedMember}
 use Rattle.handle_set.specs.declared.settle.OpenSet.{OpenSet}
 use Rattle.handle_set.specs.Holders.{IsHeld, is_holder}
 use Rattle.handle_set.specs.Spreading.{IsExactBut}
@@ -20,10 +20,10 @@ use Rattle.handle_set.proofs.Places.{get_set, get_other, set_same, some_same, go
 use Rattle.handle_set.proofs.Levels.{flipped, now_at, open_kept, ready_other, same_ids, same_known, all_fixed, get_mapped}
 
 -- what a change of the members leaves of each: its object, and what is told of it
-abbrev pub IsFewer : (List Told → List Told) → Type 1
-IsFewer change = (P : ObjKey → Bool → Events → Type 0) (ms : List Told) → Each ms (λ t. P t.object t.inner t.events) → Each (change ms) (λ t. P t.object t.inner t.events)
+abbrev pub IsFewer : (List TrackedMember → List TrackedMember) → Type 1
+IsFewer change = (P : ObjKey → Bool → Events → Type 0) (ms : List TrackedMember) → Each ms (λ t. P t.object t.inner t.events) → Each (change ms) (λ t. P t.object t.inner t.events)
 
-pub each_filter : (q : Told → Bool) (P : Told → Type 0) (xs : List Told) → Each xs P → Each (filter q xs) P
+pub each_filter : (q : TrackedMember → Bool) (P : TrackedMember → Type 0) (xs : List TrackedMember) → Each xs P → Each (filter q xs) P
 each_filter q P [] each k x here = absurd (cc)
 each_filter q P (y ∷ ys) each k x here = by_test (q y) (each_filter q P ys (λ j z at. each (suc j) z at)) k x here
   where
@@ -32,20 +32,20 @@ each_filter q P (y ∷ ys) each k x here = by_test (q y) (each_filter q P ys (λ
     by_test true rest (suc k) x here = rest k x here
     by_test false rest k x here = rest k x here
 
-pub each_push : (P : Told → Type 0) (xs : List Told) (t : Told) → Each xs P → P t → Each (xs ++ t ∷ []) P
+pub each_push : (P : TrackedMember → Type 0) (xs : List TrackedMember) (t : TrackedMember) → Each xs P → P t → Each (xs ++ t ∷ []) P
 each_push P [] t each one zero x here = let is = some_same t x here in subst P is one
 each_push P [] t each one (suc k) x here = absurd (cc)
 each_push P (y ∷ ys) t each one zero x here = let is = some_same y x here in subst P is (each zero y refl)
 each_push P (y ∷ ys) t each one (suc k) x here = each_push P ys t (λ j z at. each (suc j) z at) one k x here
 
-each_pick : (P : Told → Type 0) (xs : List Told) → Each xs P → Each (reported xs) P
+each_pick : (P : TrackedMember → Type 0) (xs : List TrackedMember) → Each xs P → Each (reported xs) P
 each_pick P xs each = by_found (find is_ready xs) refl
   where
-    by_found : (o : Option Told) → find is_ready xs ≡ o → Each (after_pick xs o) P
+    by_found : (o : Option TrackedMember) → find is_ready xs ≡ o → Each (after_pick xs o) P
     by_found None is = each
     by_found (Some t) is = each_push P (filter (λ other. not (other.label == t.label)) xs) t (each_filter (λ other. not (other.label == t.label)) P xs each) (each (position_or_len is_ready xs) t (sym (find_at is_ready xs) ∙ is))
 
-each_set : (P : Told → Type 0) (xs : List Told) (k : ℕ) (x : Told) → Each xs P → P x → Each (set xs k x) P
+each_set : (P : TrackedMember → Type 0) (xs : List TrackedMember) (k : ℕ) (x : TrackedMember) → Each xs P → P x → Each (set xs k x) P
 each_set P [] k x each one j y here = absurd (cc)
 each_set P (z ∷ zs) zero x each one zero y here = subst P (some_same x y here) one
 each_set P (z ∷ zs) zero x each one (suc j) y here = each (suc j) y here
@@ -65,16 +65,16 @@ dropping_fewer P (y ∷ ys) each k x here = each (suc k) x here
 pub masking_fewer : (label : ℕ) (mask : Events) (cookie : ℕ) → IsFewer (remasked label mask cookie)
 masking_fewer label mask cookie P ms each = by_place (slice_get ms (position_or_len (λ t. t.label == label) ms)) refl
   where
-    by_place : (o : Option Told) → slice_get ms (position_or_len (λ t. t.label == label) ms) ≡ o → Each (set_if ms (position_or_len (λ t. t.label == label) ms) (option_map (with_mask mask cookie) o)) (λ t. P t.object t.inner t.events)
+    by_place : (o : Option TrackedMember) → slice_get ms (position_or_len (λ t. t.label == label) ms) ≡ o → Each (set_if ms (position_or_len (λ t. t.label == label) ms) (option_map (with_mask mask cookie) o)) (λ t. P t.object t.inner t.events)
     by_place None is = each
     by_place (Some t) is = each_set (λ u. P u.object u.inner u.events) ms (position_or_len (λ u. u.label == label) ms) (with_mask mask cookie t) each (each (position_or_len (λ u. u.label == label) ms) t is)
 
 -- a member is settled where it has been told what its object has
-pub told_of : (ready : Option Bool) (told : Told) → settled_told ready told ≡ told → are_of ready told.events
+pub told_of : (ready : Option Bool) (told : TrackedMember) → settled_told ready told ≡ told → are_of ready told.events
 told_of None told is = tt
-told_of (Some ready) told is = sym (ap (λ (t : Told). t.events) is)
+told_of (Some ready) told is = sym (ap (λ (t : TrackedMember). t.events) is)
 
-pub of_told : (ready : Option Bool) (told : Told) → are_of ready told.events → settled_told ready told ≡ told
+pub of_told : (ready : Option Bool) (told : TrackedMember) → are_of ready told.events → settled_told ready told ≡ told
 of_told None told is = refl
 of_told (Some ready) told is = ap (λ e. with_events e told) (sym is)
 
@@ -97,7 +97,7 @@ ready_kept (x ∷ xs) (suc k) s new id here same ready = by_test (x.id == id) (r
     by_test true rest = refl
     by_test false rest = rest
 
-module _ (change : List Told → List Told) (sets : List OpenSet) (place : ℕ) (s : OpenSet) (here : slice_get sets place ≡ Some s) where
+module _ (change : List TrackedMember → List TrackedMember) (sets : List OpenSet) (place : ℕ) (s : OpenSet) (here : slice_get sets place ≡ Some s) where
   pub changed_ids : map id_of (set sets place (with_changed change s)) ≡ map id_of sets
   changed_ids = map-set id_of sets place (with_changed change s) ∙ set_same (map id_of sets) place s.id (get_map id_of sets place s here)
 
@@ -171,7 +171,7 @@ module _ (change : List Told → List Told) (sets : List OpenSet) (place : ℕ) 
           others = each_set_at (λ t. Each t.members (λ told. (s.id == told.object.serial) ≡ false)) (unheld sets s.id alone) (fewer (λ o i e. (s.id == o.serial) ≡ false) s.members (unheld sets s.id alone place s here))
 
 -- where the set stands, as the code finds it
-module _ (change : List Told → List Told) (sets : List OpenSet) (id place : ℕ) (place_is : place ≡ position_or_len (has_id id) sets) where
+module _ (change : List TrackedMember → List TrackedMember) (sets : List OpenSet) (id place : ℕ) (place_is : place ≡ position_or_len (has_id id) sets) where
   pub past : length sets ≤ place → find (has_id id) sets ≡ None
   past high = find_at (has_id id) sets ∙ ap (slice_get sets) (sym place_is) ∙ get_past sets place high
 
@@ -213,7 +213,7 @@ pub rests : (sets : List OpenSet) → IsSettled sets → (changed : List OpenSet
 rests sets settled changed is = subst (λ xs. IsUpToDate xs sets) (sym is) (record { shape = refl; leaves = λ events follow. follow; exact = settled.exact })
 
 -- the sets as the code leaves them when it has changed the members at a place, before they are brought up to date
-module _ (change : List Told → List Told) (sets : List OpenSet) (id place : ℕ) (s : OpenSet) (place_is : place ≡ position_or_len (has_id id) sets) (within : place < length sets) (s_is : s ≡ get_or sets place s) (members : List Told) (is : members ≡ change s.members) where
+module _ (change : List TrackedMember → List TrackedMember) (sets : List OpenSet) (id place : ℕ) (s : OpenSet) (place_is : place ≡ position_or_len (has_id id) sets) (within : place < length sets) (s_is : s ≡ get_or sets place s) (members : List TrackedMember) (is : members ≡ change s.members) where
   here : slice_get sets place ≡ Some s
   here = got sets place s within s_is
 

@@ -9,7 +9,7 @@ use Rattle.kernel_types.specs.Reach.Reached.{by_root, by_holder}
 use Rattle.kernel_types.specs.Sets.{is_or_contains, members_of, memberships, membership_names}
 use Rattle.kernel_types.proofs.Reaching.{marked_is_reached}
 use Rattle.set_laws.specs.Chains.{HasMember}
-use Rattle.handle_set.specs.declared.records.Told.{Told}
+use Rattle.handle_set.specs.declared.records.TrackedMember.{TrackedMember}
 use Rattle.handle_set.specs.declared.settle.OpenSet.{OpenSet}
 use Rattle.handle_set.specs.Chains.{object_value, objects_in, objects_of}
 use Rattle.handle_set.specs.Sets.{AreOnce, id_of, IsRankedBy}
@@ -36,12 +36,12 @@ among_either name [] ys among = inr among
 among_either name (x ∷ xs) ys (inl same) = inl (inl same)
 among_either name (x ∷ xs) ys (inr more) = elim (among_either name xs ys more) [ inl first ↦ inl (inr first) | inr second ↦ inr second ]
 
-named : (holder : ℕ) (members : List Told) (j : ℕ) (told : Told) → slice_get members j ≡ Some told → Among (held_by holder told.object.serial) (map (held_by holder) (objects_in members))
+named : (holder : ℕ) (members : List TrackedMember) (j : ℕ) (told : TrackedMember) → slice_get members j ≡ Some told → Among (held_by holder told.object.serial) (map (held_by holder) (objects_in members))
 named holder [] j told here = absurd (cc)
-named holder (x ∷ xs) zero told here = inl (ap (λ (t : Told). held_by holder t.object.serial) (some_same x told here))
+named holder (x ∷ xs) zero told here = inl (ap (λ (t : TrackedMember). held_by holder t.object.serial) (some_same x told here))
 named holder (x ∷ xs) (suc j) told here = inr (named holder xs j told here)
 
-among_held : (sets : List OpenSet) (k : ℕ) (s : OpenSet) → slice_get sets k ≡ Some s → (j : ℕ) (told : Told) → slice_get s.members j ≡ Some told → Among (held_by s.id told.object.serial) (memberships (objects_of sets))
+among_held : (sets : List OpenSet) (k : ℕ) (s : OpenSet) → slice_get sets k ≡ Some s → (j : ℕ) (told : TrackedMember) → slice_get s.members j ≡ Some told → Among (held_by s.id told.object.serial) (memberships (objects_of sets))
 among_held [] k s at j told there = absurd (cc)
 among_held (x ∷ xs) zero s at j told there =
     let is = some_same x s at in
@@ -52,7 +52,7 @@ among_held (x ∷ xs) (suc k) s at j told there = among_right (held_by s.id told
 some_equal : (a b : ℕ) → Some a ≡ Some b → a ≡ b
 some_equal a b e = cc
 
-member_named : (holder outer inner : ℕ) (members : List Told) → Among (held_by outer inner) (map (held_by holder) (objects_in members)) → (holder ≡ outer) × Has members inner
+member_named : (holder outer inner : ℕ) (members : List TrackedMember) → Among (held_by outer inner) (map (held_by holder) (objects_in members)) → (holder ≡ outer) × Has members inner
 member_named holder outer inner [] among = absurd among
 member_named holder outer inner (x ∷ xs) (inl same) = (some_equal holder outer (ap (λ (n : Name). n.holder) same), record { at = 0; told = x; here = refl; same = ap (λ (n : Name). n.object) same })
 member_named holder outer inner (x ∷ xs) (inr more) = let r = member_named holder outer inner xs more in (r.0, record { at = suc r.1.at; told = r.1.told; here = r.1.here; same = r.1.same })
@@ -78,7 +78,7 @@ no_root object (x ∷ xs) among = elim (among_either (root object) (membership_n
   | inr later ↦ no_root object xs later
 ]
   where
-    no_named : (members : List Told) → Among (root object) (map (held_by x.id) (objects_in members)) → ⊥
+    no_named : (members : List TrackedMember) → Among (root object) (map (held_by x.id) (objects_in members)) → ⊥
     no_named [] bad = bad
     no_named (t ∷ ts) (inl same) = not_held None x.id object (held_by x.id t.object.serial) refl same
     no_named (t ∷ ts) (inr more) = no_named ts more

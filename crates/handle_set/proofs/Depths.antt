@@ -18,7 +18,7 @@ use Rattle.kernel_types.specs.Tables.{entry_at, table_of}
 use Rattle.set_laws.specs.Chains.{HasShortChains, ChainFrom, IsSet, HasMember}
 use Rattle.set_laws.proofs.Counting.{counted_below}
 use Rattle.handle_set.specs.declared.adding.Member.{Member}
-use Rattle.handle_set.specs.declared.records.Told.{Told}
+use Rattle.handle_set.specs.declared.records.TrackedMember.{TrackedMember}
 use Rattle.handle_set.specs.declared.settle.OpenSet.{OpenSet}
 use Rattle.handle_set.specs.Adding.{with_pushed}
 use Rattle.handle_set.specs.Chains.{member_of, object_value, objects_in, objects_of, set_value}
@@ -49,7 +49,7 @@ above_most zero objects id = omega arith
 above_most (suc limit) objects id = let rest = greatest_most (depth_above limit objects) limit (above_most limit objects) (holders_of objects id) in omega arith
 
 -- the sets that hold an object
-member_same : (members : List Told) (object : ℕ) → list_any (λ m. m == object) (objects_in members) ≡ list_any (has_object object) members
+member_same : (members : List TrackedMember) (object : ℕ) → list_any (λ m. m == object) (objects_in members) ≡ list_any (has_object object) members
 member_same [] object = refl
 member_same (x ∷ xs) object = ap (λ b. (x.object.serial == object) || b) (member_same xs object)
 
@@ -130,7 +130,7 @@ short_ranked objects sets short stands = (
 
 -- the kernel's own law of `add` says that chains stay short
 
-module _ (sets : List OpenSet) (id place : ℕ) (s : OpenSet) (member : Member) (told : Told) (same : member_of told ≡ new_member member.label member.object.serial member.mask member.cookie) (here : slice_get sets place ≡ Some s) (place_is : place ≡ position_or_len (has_id id) sets) (value : set_of (objects_of sets) id ≡ Some (set_value s))
+module _ (sets : List OpenSet) (id place : ℕ) (s : OpenSet) (member : Member) (told : TrackedMember) (same : member_of told ≡ new_member member.label member.object.serial member.mask member.cookie) (here : slice_get sets place ≡ Some s) (place_is : place ≡ position_or_len (has_id id) sets) (value : set_of (objects_of sets) id ≡ Some (set_value s))
     (outside : is_or_contains (objects_of sets) member.object.serial id ≡ false) (new_label : is_label_in (map member_of s.members) member.label ≡ false) (shallow : nat_lt chain_limit (chain_through (objects_of sets) id member.object.serial) ≡ false) (room : nat_le member_limit (length (map member_of s.members)) ≡ false) where
   abbrev entry : TableEntry
   entry = record { handle = member.label; object = member.object.serial; cookie = 0 }
@@ -183,10 +183,10 @@ first_of [] at x here = absurd (cc)
 first_of (y ∷ ys) zero x here = let is : y ≡ x = cc in ap (λ z. z ∷ ys) is
 first_of (y ∷ ys) (suc at) x here = first_of ys at x here
 
-pub any_object : (p : ℕ → Bool) (members : List Told) (at : ℕ) (told : Told) → slice_get members at ≡ Some told → list_any p (objects_in (drop at members)) ≡ (p told.object.serial || list_any p (objects_in (drop (suc at) members)))
+pub any_object : (p : ℕ → Bool) (members : List TrackedMember) (at : ℕ) (told : TrackedMember) → slice_get members at ≡ Some told → list_any p (objects_in (drop at members)) ≡ (p told.object.serial || list_any p (objects_in (drop (suc at) members)))
 any_object p members at told here = ap (λ ms. list_any p (objects_in ms)) (first_of members at told here)
 
-pub greatest_object : (f : ℕ → ℕ) (members : List Told) (at : ℕ) (told : Told) → slice_get members at ≡ Some told → greatest (map f (objects_in (drop at members))) ≡ max (f told.object.serial) (greatest (map f (objects_in (drop (suc at) members))))
+pub greatest_object : (f : ℕ → ℕ) (members : List TrackedMember) (at : ℕ) (told : TrackedMember) → slice_get members at ≡ Some told → greatest (map f (objects_in (drop at members))) ≡ max (f told.object.serial) (greatest (map f (objects_in (drop (suc at) members))))
 greatest_object f members at told here = ap (λ ms. greatest (map f (objects_in ms))) (first_of members at told here)
 
 abbrev pub holder_ids : ℕ → List OpenSet → List ℕ

@@ -5,7 +5,7 @@ use Rattle.std.specs.BTreeMap.{BTreeMap}
 use Rattle.std.specs.List.{find, list_any, position_or_len}
 use Rattle.std.specs.Option.{IfSome, option_map}
 use Rattle.std.proofs.lemmas.Bool.{cases_eq, false≢true}
-use Rattle.handle_set.specs.declared.records.Told.{Told}
+use Rattle.handle_set.specs.declared.records.TrackedMember.{TrackedMember}
 use Rattle.handle_set.specs.declared.settle.OpenSet.{OpenSet}
 use Rattle.handle_set.specs.Holders.{IsHeld, at_object, holders_in, is_holder, with_number, without_number}
 use Rattle.handle_set.specs.Members.{has_object, set_if}
@@ -16,7 +16,7 @@ use Rattle.handle_set.proofs.Changing.{IsFewer, each_set_at, found_id}
 use Rattle.handle_set.proofs.Spreading.{not_found, only}
 
 -- a change of one set's members that adds none
-pub changed_held : (holders : BTreeMap ℕ (Vec ℕ)) (change : List Told → List Told) → IsFewer change → (sets : List OpenSet) (id : ℕ) → IsHeld holders sets → IsHeld holders (members_changed change id sets)
+pub changed_held : (holders : BTreeMap ℕ (Vec ℕ)) (change : List TrackedMember → List TrackedMember) → IsFewer change → (sets : List OpenSet) (id : ℕ) → IsHeld holders sets → IsHeld holders (members_changed change id sets)
 changed_held holders change fewer sets id held = by_found (slice_get sets (position_or_len (has_id id) sets)) refl
   where
     by_found : (o : Option OpenSet) → slice_get sets (position_or_len (has_id id) sets) ≡ o → IsHeld holders (set_if sets (position_or_len (has_id id) sets) (option_map (with_changed change) o))

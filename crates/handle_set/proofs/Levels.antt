@@ -5,7 +5,7 @@ use Rattle.std.specs.Option.{option_map}
 use Rattle.std.proofs.lemmas.Bool.{cases_eq}
 use Rattle.std.proofs.lemmas.Bool.Decides.{nat_tests}
 use Rattle.kernel_values.specs.declared.flags.Events.{Events}
-use Rattle.handle_set.specs.declared.records.Told.{Told}
+use Rattle.handle_set.specs.declared.records.TrackedMember.{TrackedMember}
 use Rattle.handle_set.specs.declared.settle.OpenSet.{OpenSet}
 use Rattle.handle_set.specs.Members.{with_events, with_told, is_ready}
 use Rattle.handle_set.specs.Sets.{has_id, has_ready, ready_in, ready_events, settled_told, settled_in, with_members, Each, IsExact, IsRankedIn, IsRankedBy, IsRanked, is_open, bare_told, bare, shape, LeavesFollow, Follows, is_ready_by, IsOfSets, set_told, OnlyChanges, IsHeight, IsKnown, id_of}
@@ -62,7 +62,7 @@ none_found (x ∷ xs) id none = by_test (x.id == id) none (none_found xs id)
 
 -- exact sets follow the events of what is in them
 
-pub get_mapped : (f : Told → Told) (xs : List Told) (k : ℕ) (x : Told) → slice_get xs k ≡ Some x → map f xs ≡ xs → f x ≡ x
+pub get_mapped : (f : TrackedMember → TrackedMember) (xs : List TrackedMember) (k : ℕ) (x : TrackedMember) → slice_get xs k ≡ Some x → map f xs ≡ xs → f x ≡ x
 get_mapped f xs k x here same = some_same (f x) x (sym (get_map f xs k x here) ∙ ap (λ ys. slice_get ys k) same ∙ here)
 
 pub equal_ids : (a b : ℕ) → (a == b) ≡ true → a ≡ b
@@ -93,7 +93,7 @@ follow_to rank sets events ranked exact leaves of_sets (suc level) k s at low j 
         let same = any_same is_ready (is_ready_by events) inner.members (λ i t in_it. ap (λ (n : ℕ). not (bit_and n t.mask.0 == 0)) (members i t in_it)) in
         let settled = get_mapped (settled_in sets) s.members j told there (exact k s at) in
         let is : settled_in sets told ≡ with_events (ready_events (list_any is_ready inner.members)) told = ap (λ found. settled_told (option_map has_ready found) told) f.4 in
-        let now : told.events.0 ≡ (ready_events (list_any is_ready inner.members)).0 = ap (λ (t : Told). t.events.0) (sym settled ∙ is) in
+        let now : told.events.0 ≡ (ready_events (list_any is_ready inner.members)).0 = ap (λ (t : TrackedMember). t.events.0) (sym settled ∙ is) in
         now ∙ ap (λ b. (ready_events b).0) same ∙ sym (of_sets f.0 inner f.2) ∙ ap events f.3
 
 pub all_follow : (sets : List OpenSet) (events : ℕ → ℕ) → IsRanked sets → IsExact sets → LeavesFollow events sets → IsOfSets events sets → Follows events sets
@@ -101,14 +101,14 @@ all_follow sets events ranked exact leaves of_sets k s at = follow_to ranked.0 s
 
 -- the members of an object are told
 
-pub told_object : (object : ℕ) (events : Events) (told : Told) → (with_told object events told).object ≡ told.object
+pub told_object : (object : ℕ) (events : Events) (told : TrackedMember) → (with_told object events told).object ≡ told.object
 told_object object events told = by_test (told.object.serial == object)
   where
     by_test : (b : Bool) → (cond b (with_events events told) told).object ≡ told.object
     by_test true = refl
     by_test false = refl
 
-pub told_bare : (object : ℕ) (events : Events) (told : Told) → bare_told (with_told object events told) ≡ bare_told told
+pub told_bare : (object : ℕ) (events : Events) (told : TrackedMember) → bare_told (with_told object events told) ≡ bare_told told
 told_bare object events told = by_test (told.object.serial == object)
   where
     by_test : (b : Bool) → bare_told (cond b (with_events events told) told) ≡ bare_told told
@@ -140,7 +140,7 @@ told_leaves object events sets before now follow here only = map_each (set_told 
     let shut : is_open sets told.object.serial ≡ false = sym (told_open object events sets told.object.serial) ∙ ap (λ o. is_open (map (set_told object events) sets) o.serial) (sym same) ∙ closed in
     by_test told (told.object.serial == object) refl shut (follow k s at j told there shut)))
   where
-    by_test : (told : Told) (b : Bool) → (told.object.serial == object) ≡ b → is_open sets told.object.serial ≡ false → told.events.0 ≡ before told.object.serial → (cond b (with_events events told) told).events.0 ≡ now (cond b (with_events events told) told).object.serial
+    by_test : (told : TrackedMember) (b : Bool) → (told.object.serial == object) ≡ b → is_open sets told.object.serial ≡ false → told.events.0 ≡ before told.object.serial → (cond b (with_events events told) told).events.0 ≡ now (cond b (with_events events told) told).object.serial
     by_test told true is shut was = sym here ∙ ap now (sym (equal_ids told.object.serial object is))
     by_test told false is shut was = was ∙ sym (only told.object.serial is shut)
 
@@ -164,7 +164,7 @@ pub same_open : (now was : List OpenSet) (id : ℕ) → shape now ≡ shape was 
 same_open now was id same = sym (open_of_shape now id) ∙ ap (λ sets. is_open sets id) same ∙ open_of_shape was id
 
 -- a fact of each member that its told events have no part in
-pub shape_members : (P : ℕ → Told → Type 0) → ((id : ℕ) (told : Told) → P id (bare_told told) → P id told) → ((id : ℕ) (told : Told) → P id told → P id (bare_told told))
+pub shape_members : (P : ℕ → TrackedMember → Type 0) → ((id : ℕ) (told : TrackedMember) → P id (bare_told told) → P id told) → ((id : ℕ) (told : TrackedMember) → P id told → P id (bare_told told))
     → (now was : List OpenSet) → shape now ≡ shape was → Each was (λ set. Each set.members (P set.id)) → Each now (λ set. Each set.members (P set.id))
 shape_members P up down now was same each k s at j told there =
     let low : Each (shape was) (λ set. Each set.members (P set.id)) = map_each bare (λ set. Each set.members (P set.id)) was (λ i t at_i. map_each bare_told (P t.id) t.members (λ n u in_u. down t.id u (each i t at_i n u in_u))) in
@@ -186,6 +186,6 @@ same_ranked rank now was same ranked k s at =
     heights : Each now (λ set. IsHeight (rank set.id))
     heights i t at_i = subst (λ sets. Each sets (λ set. IsHeight (rank set.id))) (sym same) low i (bare t) (get_map bare now i t at_i)
 
-pub all_fixed : (f : Told → Told) (xs : List Told) → Each xs (λ x. f x ≡ x) → map f xs ≡ xs
+pub all_fixed : (f : TrackedMember → TrackedMember) (xs : List TrackedMember) → Each xs (λ x. f x ≡ x) → map f xs ≡ xs
 all_fixed f [] each = refl
 all_fixed f (x ∷ xs) each = rw (each zero x refl, all_fixed f xs (λ k y at. each (suc k) y at)) refl

@@ -5,7 +5,7 @@ use Rattle.std.proofs.lemmas.List.{map-append, length-map, take-append-drop, len
 use Rattle.std.proofs.lemmas.List.Edits.{length-remove}
 use Rattle.std.proofs.lemmas.Bool.{cases_lt}
 use Rattle.std.proofs.lemmas.Bool.Decides.{nat_tests}
-use Rattle.handle_set.specs.declared.records.Told.{Told}
+use Rattle.handle_set.specs.declared.records.TrackedMember.{TrackedMember}
 use Rattle.handle_set.specs.Members.{moved_last}
 use Rattle.handle_set.specs.Slots.{IsOrder, blank, row, in_order, one_if, times}
 use Rattle.handle_set.proofs.Orders.{map_remove}
@@ -63,17 +63,17 @@ get_take (x ∷ xs) zero k less = absurd (omega arith)
 get_take (x ∷ xs) (suc n) zero less = refl
 get_take (x ∷ xs) (suc n) (suc k) less = get_take xs n k (omega arith)
 
-row_is : (rows : List Told) (k : ℕ) (told : Told) → slice_get rows k ≡ Some told → row rows k ≡ told
+row_is : (rows : List TrackedMember) (k : ℕ) (told : TrackedMember) → slice_get rows k ≡ Some told → row rows k ≡ told
 row_is [] k told here = absurd (cc)
 row_is (x ∷ xs) zero told here = cc
 row_is (x ∷ xs) (suc k) told here = row_is xs k told here
 
 -- a row that is written
 
-row_set : (rows : List Told) (k : ℕ) (told : Told) → k < length rows → row (set rows k told) k ≡ told
+row_set : (rows : List TrackedMember) (k : ℕ) (told : TrackedMember) → k < length rows → row (set rows k told) k ≡ told
 row_set rows k told within = get_or-set_same rows k told blank within
 
-unwritten : (rows : List Told) (k : ℕ) (told : Told) (order : List ℕ) → times k order ≡ 0 → in_order (set rows k told) order ≡ in_order rows order
+unwritten : (rows : List TrackedMember) (k : ℕ) (told : TrackedMember) (order : List ℕ) → times k order ≡ 0 → in_order (set rows k told) order ≡ in_order rows order
 unwritten rows k told [] none = refl
 unwritten rows k told (x ∷ xs) none = by_test (x == k) refl none (unwritten rows k told xs)
   where
@@ -84,7 +84,7 @@ unwritten rows k told (x ∷ xs) none = by_test (x == k) refl none (unwritten ro
     by_test true is some rest = absurd (omega arith)
     by_test false is few rest = rw (get_or-set_other rows k x told blank (differ is), rest (omega arith)) refl
 
-written_at : (rows : List Told) (k at : ℕ) (told : Told) (order : List ℕ) → k < length rows → times k order ≤ 1 → slice_get order at ≡ Some k → in_order (set rows k told) order ≡ set (in_order rows order) at told
+written_at : (rows : List TrackedMember) (k at : ℕ) (told : TrackedMember) (order : List ℕ) → k < length rows → times k order ≤ 1 → slice_get order at ≡ Some k → in_order (set rows k told) order ≡ set (in_order rows order) at told
 written_at rows k at told [] within once here = absurd (cc)
 written_at rows k zero told (x ∷ xs) within once here =
     let is : x ≡ k = cc in
@@ -110,7 +110,7 @@ take_more [] n x here = absurd (cc)
 take_more (y ∷ ys) zero x here = let is : y ≡ x = cc in ap (λ z. z ∷ []) is
 take_more (y ∷ ys) (suc n) x here = ap (λ zs. y ∷ zs) (take_more ys n x here)
 
-module _ (rows : List Told) (order : List ℕ) (len : ℕ) (is : IsOrder rows order len) where
+module _ (rows : List TrackedMember) (order : List ℕ) (len : ℕ) (is : IsOrder rows order len) where
   pub long_as : length (in_order rows (take len order)) ≡ len
   long_as =
       let long = is.long in
@@ -131,24 +131,24 @@ module _ (rows : List Told) (order : List ℕ) (len : ℕ) (is : IsOrder rows or
       by_size (inl less) = let size = is.size in omega arith
       by_size (inr more) = let none = is.within k more in let some = times_here order at k here in absurd (omega arith)
 
-  pub record_at : (at k : ℕ) (told : Told) → at < length (in_order rows (take len order)) → slice_get order at ≡ Some k → slice_get rows k ≡ Some told → slice_get (in_order rows (take len order)) at ≡ Some told
+  pub record_at : (at k : ℕ) (told : TrackedMember) → at < length (in_order rows (take len order)) → slice_get order at ≡ Some k → slice_get rows k ≡ Some told → slice_get (in_order rows (take len order)) at ≡ Some told
   record_at at k told less here there =
       let same = long_as in
       get_map (row rows) (take len order) at k (get_take order len at (omega arith) ∙ here) ∙ ap Some (row_is rows k told there)
 
   -- a record changed in its row
-  pub record_set : (at k : ℕ) (told : Told) → at < length (in_order rows (take len order)) → slice_get order at ≡ Some k → in_order (set rows k told) (take len order) ≡ set (in_order rows (take len order)) at told
+  pub record_set : (at k : ℕ) (told : TrackedMember) → at < length (in_order rows (take len order)) → slice_get order at ≡ Some k → in_order (set rows k told) (take len order) ≡ set (in_order rows (take len order)) at told
   record_set at k told less here =
       let same = long_as in
       let parts = times_parts k len order in
       let once = is.once k in
       written_at rows k at told (take len order) (row_within at k here) (omega arith) (get_take order len at (omega arith) ∙ here)
 
-  pub still_order : (k : ℕ) (told : Told) → IsOrder (set rows k told) order len
+  pub still_order : (k : ℕ) (told : TrackedMember) → IsOrder (set rows k told) order len
   still_order k told = record { size = length-set rows k told ∙ is.size; long = is.long; few = is.few; once = is.once; within = is.within }
 
   -- one more record
-  pub record_more : (k : ℕ) (told : Told) → slice_get order len ≡ Some k → in_order (set rows k told) (take (suc len) order) ≡ in_order rows (take len order) ++ told ∷ []
+  pub record_more : (k : ℕ) (told : TrackedMember) → slice_get order len ≡ Some k → in_order (set rows k told) (take (suc len) order) ≡ in_order rows (take len order) ++ told ∷ []
   record_more k told here =
       let more = take_more order len k here in
       let parts = times_parts k (suc len) order in
@@ -160,7 +160,7 @@ module _ (rows : List Told) (order : List ℕ) (len : ℕ) (is : IsOrder rows or
       ∙ ap (λ ts. ts ++ row (set rows k told) k ∷ []) (unwritten rows k told (take len order) (omega arith))
       ∙ ap (λ t. in_order rows (take len order) ++ t ∷ []) (row_set rows k told (row_within len k here))
 
-  pub more_order : (k : ℕ) (told : Told) → len < 64 → IsOrder (set rows k told) order (suc len)
+  pub more_order : (k : ℕ) (told : TrackedMember) → len < 64 → IsOrder (set rows k told) order (suc len)
   more_order k told room = record { size = length-set rows k told ∙ is.size; long = is.long; few = omega arith; once = is.once; within = is.within }
 
   -- another order

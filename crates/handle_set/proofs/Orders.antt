@@ -2,11 +2,11 @@
 use Rattle.std.proofs.Common.{◌≡◌, ℕ, zero, suc, ◌+◌, ◌≤◌, ◌==◌, Bool, true, false, not, cond, ◌||◌, List, [], ◌∷◌, length, map, take, drop, slice_get, Some, None, refl, ap, ◌∙◌, arith, eq-eqb}
 use Rattle.std.specs.List.{remove, filter, list_any, find, position_or_len}
 use Rattle.std.proofs.lemmas.List.{map-append, take-map, drop-map}
-use Rattle.handle_set.specs.declared.records.Told.{Told}
+use Rattle.handle_set.specs.declared.records.TrackedMember.{TrackedMember}
 use Rattle.handle_set.specs.Members.{AreDifferent, is_label_in, has_label, with_last, moved_last, is_other}
 
 -- where no member has the label, all are kept
-pub all_other : (members : List Told) (label : ℕ) → is_label_in members label ≡ false → filter (is_other label) members ≡ members
+pub all_other : (members : List TrackedMember) (label : ℕ) → is_label_in members label ≡ false → filter (is_other label) members ≡ members
 all_other [] label none = refl
 all_other (x ∷ xs) label none = by_test (x.label == label) none (all_other xs label)
   where
@@ -15,7 +15,7 @@ all_other (x ∷ xs) label none = by_test (x.label == label) none (all_other xs 
     by_test false rest all = ap (λ ys. x ∷ ys) (all rest)
 
 -- a member that is there has another label than none
-pub differs : (members : List Told) (at : ℕ) (told : Told) (label : ℕ) → slice_get members at ≡ Some told → is_label_in members label ≡ false → (told.label == label) ≡ false
+pub differs : (members : List TrackedMember) (at : ℕ) (told : TrackedMember) (label : ℕ) → slice_get members at ≡ Some told → is_label_in members label ≡ false → (told.label == label) ≡ false
 differs [] at told label here none = absurd (cc)
 differs (x ∷ xs) zero told label here none = by_test (x.label == label) refl none
   where
@@ -32,7 +32,7 @@ differs (x ∷ xs) (suc at) told label here none = by_test (x.label == label) no
     by_test false rest other = other rest
 
 -- the members but the one at a place
-pub others_removed : (members : List Told) (at : ℕ) (told : Told) → AreDifferent members → slice_get members at ≡ Some told → filter (is_other told.label) members ≡ remove members at
+pub others_removed : (members : List TrackedMember) (at : ℕ) (told : TrackedMember) → AreDifferent members → slice_get members at ≡ Some told → filter (is_other told.label) members ≡ remove members at
 others_removed [] at told different here = absurd (cc)
 others_removed (x ∷ xs) zero told different here =
     let same : x ≡ told = cc in
@@ -53,7 +53,7 @@ taken_one (y ∷ ys) zero x here = let same : y ≡ x = cc in ap (λ z. z ∷ []
 taken_one (y ∷ ys) (suc at) x here = taken_one ys at x here
 
 -- to go last is what a report does to a member
-pub last_is : (members : List Told) (at : ℕ) (told : Told) → AreDifferent members → slice_get members at ≡ Some told → moved_last at members ≡ with_last told members
+pub last_is : (members : List TrackedMember) (at : ℕ) (told : TrackedMember) → AreDifferent members → slice_get members at ≡ Some told → moved_last at members ≡ with_last told members
 last_is members at told different here = rw (taken_one members at told here, ← others_removed members at told different here) refl
 
 -- the first place at which a test holds, from a place on
@@ -73,7 +73,7 @@ none_at [] at past = refl
 none_at (x ∷ xs) zero past = absurd (omega arith)
 none_at (x ∷ xs) (suc at) past = none_at xs at (omega arith)
 
-pub found_label : (members : List Told) (label : ℕ) → find (has_label label) members ≡ None → is_label_in members label ≡ false
+pub found_label : (members : List TrackedMember) (label : ℕ) → find (has_label label) members ≡ None → is_label_in members label ≡ false
 found_label [] label none = refl
 found_label (x ∷ xs) label none = by_test (x.label == label) none (found_label xs label)
   where
@@ -81,7 +81,7 @@ found_label (x ∷ xs) label none = by_test (x.label == label) none (found_label
     by_test true some rest = absurd (cc)
     by_test false less rest = rest less
 
-pub label_found : (members : List Told) (label : ℕ) (told : Told) → find (has_label label) members ≡ Some told → is_label_in members label ≡ true
+pub label_found : (members : List TrackedMember) (label : ℕ) (told : TrackedMember) → find (has_label label) members ≡ Some told → is_label_in members label ≡ true
 label_found [] label told some = absurd (cc)
 label_found (x ∷ xs) label told some = by_test (x.label == label) some (label_found xs label told)
   where

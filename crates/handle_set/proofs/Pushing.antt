@@ -15,7 +15,7 @@ use Rattle.kernel_types.specs.Sets.{chain_through, is_label_in, is_or_contains, 
 use Rattle.set_laws.specs.Chains.{HasShortChains}
 use Rattle.handle_set.specs.declared.adding.Member.{Member}
 use Rattle.handle_set.specs.declared.adding.SetRefused.TheVariants as refused
-use Rattle.handle_set.specs.declared.records.Told.{Told}
+use Rattle.handle_set.specs.declared.records.TrackedMember.{TrackedMember}
 use Rattle.handle_set.specs.declared.settle.OpenSet.{OpenSet}
 use Rattle.handle_set.specs.Adding.{add_refusal, members_in, told_as, with_added, with_pushed}
 use Rattle.handle_set.specs.Chains.{member_of, objects_of, set_value}
@@ -55,7 +55,7 @@ allowed sets id member none =
     by_tests false false false true is_a is_b is_d is_e is_none = absurd (cc)
     by_tests false false false false is_a is_b is_d is_e is_none = record { outside = is_a; label = is_b; shallow = is_d; room = is_e }
 
-labels_same : (members : List Told) (label : ℕ) → is_label_in (map member_of members) label ≡ has_labelled label (Some (record { id = 0; members = members }))
+labels_same : (members : List TrackedMember) (label : ℕ) → is_label_in (map member_of members) label ≡ has_labelled label (Some (record { id = 0; members = members }))
 labels_same [] label = refl
 labels_same (x ∷ xs) label = ap (λ b. (x.label == label) || b) (labels_same xs label)
 
@@ -69,7 +69,7 @@ module _ (sets : List OpenSet) (id place : ℕ) (s : OpenSet) (member : Member) 
   s_id : s.id ≡ id
   s_id = found_id (λ ms. ms) sets id place place_is s here
 
-  abbrev told : Told
+  abbrev told : TrackedMember
   told = told_as sets member events
 
   free : Allowed sets id member
@@ -120,7 +120,7 @@ module _ (sets : List OpenSet) (id place : ℕ) (s : OpenSet) (member : Member) 
       told_after
 
   -- the sets as the code leaves them
-  module _ (members : List Told) (is : members ≡ with_pushed told s.members) where
+  module _ (members : List TrackedMember) (is : members ≡ with_pushed told s.members) where
     written : set sets place (with_members members (get_or sets place s)) ≡ after
     written = ap (λ ms. set sets place (with_members ms (get_or sets place s))) is ∙ ap (λ (x : OpenSet). set sets place (with_members (with_pushed told s.members) x)) (sym s_is)
 

@@ -9,7 +9,7 @@ use Rattle.std.proofs.lemmas.List.Folds.{find_at}
 use Rattle.std.proofs.lemmas.Simd.{trailing_mask_l}
 use Rattle.std.proofs.lemmas.Bool.Decides.{nat_tests}
 use lib.Lanes.{mask_l}
-use Rattle.handle_set.specs.declared.records.Told.{Told}
+use Rattle.handle_set.specs.declared.records.TrackedMember.{TrackedMember}
 use Rattle.handle_set.specs.Members.{AreDifferent, is_label_in, has_label, with_last, moved_last, is_ready, is_inner, is_other}
 use Rattle.handle_set.specs.Rows.{IsReadyList}
 use Rattle.handle_set.proofs.Masks.{first_within}
@@ -26,7 +26,7 @@ found_passes p (y ∷ ys) x found = by_test (p y) refl found (found_passes p ys 
 
 -- labels stay different
 
-label_kept : (members : List Told) (label gone : ℕ) → is_label_in members label ≡ false → is_label_in (filter (is_other gone) members) label ≡ false
+label_kept : (members : List TrackedMember) (label gone : ℕ) → is_label_in members label ≡ false → is_label_in (filter (is_other gone) members) label ≡ false
 label_kept [] label gone none = refl
 label_kept (x ∷ xs) label gone none = by_test (x.label == gone) (x.label == label) refl none (label_kept xs label gone)
   where
@@ -35,7 +35,7 @@ label_kept (x ∷ xs) label gone none = by_test (x.label == gone) (x.label == la
     by_test true false is absent rest = rest absent
     by_test false false is absent rest = rw is (rest absent)
 
-different_filter : (members : List Told) (gone : ℕ) → AreDifferent members → AreDifferent (filter (is_other gone) members)
+different_filter : (members : List TrackedMember) (gone : ℕ) → AreDifferent members → AreDifferent (filter (is_other gone) members)
 different_filter [] gone different = different
 different_filter (x ∷ xs) gone different = by_test (x.label == gone) (label_kept xs x.label gone different.0) (different_filter xs gone different.1)
   where
@@ -43,7 +43,7 @@ different_filter (x ∷ xs) gone different = by_test (x.label == gone) (label_ke
     by_test true absent rest = rest
     by_test false absent rest = (absent, rest)
 
-gone_absent : (members : List Told) (gone : ℕ) → is_label_in (filter (is_other gone) members) gone ≡ false
+gone_absent : (members : List TrackedMember) (gone : ℕ) → is_label_in (filter (is_other gone) members) gone ≡ false
 gone_absent [] gone = refl
 gone_absent (x ∷ xs) gone = by_test (x.label == gone) refl (gone_absent xs gone)
   where
@@ -54,7 +54,7 @@ gone_absent (x ∷ xs) gone = by_test (x.label == gone) refl (gone_absent xs gon
 flipped : (a b : ℕ) → (a == b) ≡ false → (b == a) ≡ false
 flipped a b is = grind (arith, nat_tests)
 
-any_push : (members : List Told) (told : Told) (label : ℕ) → is_label_in members label ≡ false → has_label label told ≡ false → is_label_in (members ++ told ∷ []) label ≡ false
+any_push : (members : List TrackedMember) (told : TrackedMember) (label : ℕ) → is_label_in members label ≡ false → has_label label told ≡ false → is_label_in (members ++ told ∷ []) label ≡ false
 any_push [] told label none other = rw other refl
 any_push (x ∷ xs) told label none other = by_test (x.label == label) none (λ less. any_push xs told label less other)
   where
@@ -62,7 +62,7 @@ any_push (x ∷ xs) told label none other = by_test (x.label == label) none (λ 
     by_test true not_none rest = absurd (cc)
     by_test false less rest = rest less
 
-pub different_push : (members : List Told) (told : Told) → AreDifferent members → is_label_in members told.label ≡ false → AreDifferent (members ++ told ∷ [])
+pub different_push : (members : List TrackedMember) (told : TrackedMember) → AreDifferent members → is_label_in members told.label ≡ false → AreDifferent (members ++ told ∷ [])
 different_push [] told different absent = (refl, tt)
 different_push (x ∷ xs) told different absent = by_test (x.label == told.label) refl absent (different_push xs told different.1) (any_push xs told x.label different.0)
   where
@@ -70,7 +70,7 @@ different_push (x ∷ xs) told different absent = by_test (x.label == told.label
     by_test true is not_none rest last = absurd (cc)
     by_test false is none rest last = (last (flipped x.label told.label is), rest none)
 
-module _ (members : List Told) (ready inner : ℕ) (roster : IsReadyList members ready inner) (some : 0 < ready) where
+module _ (members : List TrackedMember) (ready inner : ℕ) (roster : IsReadyList members ready inner) (some : 0 < ready) where
   pub at_first : trailing_zeros w64 ready ≡ position_or_len is_ready members
   at_first =
       let marked = roster.marked in
@@ -86,7 +86,7 @@ module _ (members : List Told) (ready inner : ℕ) (roster : IsReadyList members
   pub found_at : find is_ready members ≡ slice_get members (trailing_zeros w64 ready)
   found_at = rw at_first (find_at is_ready members)
 
-  module _ (told : Told) (here : slice_get members (trailing_zeros w64 ready) ≡ Some told) where
+  module _ (told : TrackedMember) (here : slice_get members (trailing_zeros w64 ready) ≡ Some told) where
     pub found_told : find is_ready members ≡ Some told
     found_told = found_at ∙ here
 
@@ -110,7 +110,7 @@ module _ (members : List Told) (ready inner : ℕ) (roster : IsReadyList members
         let whole = length-remove members (trailing_zeros w64 ready) at_within in
         rw (one, length-append (remove members (trailing_zeros w64 ready)) (told ∷ [])) whole
 
-    pub marks_left : (p : Told → Bool) → length (remove (map p members) (trailing_zeros w64 ready)) + 1 ≡ length members
+    pub marks_left : (p : TrackedMember → Bool) → length (remove (map p members) (trailing_zeros w64 ready)) + 1 ≡ length members
     marks_left p =
         let long = length-map members p in
         let within = at_within in
@@ -127,17 +127,17 @@ module _ (members : List Told) (ready inner : ℕ) (roster : IsReadyList members
 
 -- one member gets other events
 
-label_set : (members : List Told) (at : ℕ) (told new : Told) (label : ℕ) → slice_get members at ≡ Some told → new.label ≡ told.label → is_label_in (set members at new) label ≡ is_label_in members label
+label_set : (members : List TrackedMember) (at : ℕ) (told new : TrackedMember) (label : ℕ) → slice_get members at ≡ Some told → new.label ≡ told.label → is_label_in (set members at new) label ≡ is_label_in members label
 label_set [] at told new label here same = refl
 label_set (x ∷ xs) zero told new label here same = let is : x ≡ told = cc in rw (is, same) refl
 label_set (x ∷ xs) (suc at) told new label here same = ap (λ b. (x.label == label) || b) (label_set xs at told new label here same)
 
-different_set : (members : List Told) (at : ℕ) (told new : Told) → slice_get members at ≡ Some told → new.label ≡ told.label → AreDifferent members → AreDifferent (set members at new)
+different_set : (members : List TrackedMember) (at : ℕ) (told new : TrackedMember) → slice_get members at ≡ Some told → new.label ≡ told.label → AreDifferent members → AreDifferent (set members at new)
 different_set [] at told new here same different = different
 different_set (x ∷ xs) zero told new here same different = let is : x ≡ told = cc in (rw (same, ← is) different.0, different.1)
 different_set (x ∷ xs) (suc at) told new here same different = (label_set xs at told new x.label here same ∙ different.0, different_set xs at told new here same different.1)
 
-pub set_list : (members : List Told) (ready inner : ℕ) → IsReadyList members ready inner → (at : ℕ) (told new : Told) → slice_get members at ≡ Some told → new.label ≡ told.label → new.inner ≡ told.inner → (later : ℕ) → later ≡ mask_l (set (map is_ready members) at (is_ready new)) → IsReadyList (set members at new) later inner
+pub set_list : (members : List TrackedMember) (ready inner : ℕ) → IsReadyList members ready inner → (at : ℕ) (told new : TrackedMember) → slice_get members at ≡ Some told → new.label ≡ told.label → new.inner ≡ told.inner → (later : ℕ) → later ≡ mask_l (set (map is_ready members) at (is_ready new)) → IsReadyList (set members at new) later inner
 set_list members ready inner roster at told new here same kept later is = record {
   few = rw (length-set members at new) roster.few;
   marked = is ∙ ap mask_l (sym (map-set is_ready members at new));
@@ -145,12 +145,12 @@ set_list members ready inner roster at told new here same kept later is = record
   different = different_set members at told new here same roster.different;
 }
   where
-    mark_at : (ms : List Told) (k : ℕ) (t : Told) → slice_get ms k ≡ Some t → slice_get (map is_inner ms) k ≡ Some t.inner
+    mark_at : (ms : List TrackedMember) (k : ℕ) (t : TrackedMember) → slice_get ms k ≡ Some t → slice_get (map is_inner ms) k ≡ Some t.inner
     mark_at [] k t at_k = absurd (cc)
-    mark_at (x ∷ xs) zero t at_k = ap (λ (o : Option Told). option_map is_inner o) at_k
+    mark_at (x ∷ xs) zero t at_k = ap (λ (o : Option TrackedMember). option_map is_inner o) at_k
     mark_at (x ∷ xs) (suc k) t at_k = mark_at xs k t at_k
 
-pub push_list : (members : List Told) (ready inner : ℕ) → IsReadyList members ready inner → (told : Told) → length members < 64 → is_label_in members told.label ≡ false → (later deeper : ℕ) → later ≡ mask_l (map is_ready members ++ is_ready told ∷ []) → deeper ≡ mask_l (map is_inner members ++ told.inner ∷ []) → IsReadyList (members ++ told ∷ []) later deeper
+pub push_list : (members : List TrackedMember) (ready inner : ℕ) → IsReadyList members ready inner → (told : TrackedMember) → length members < 64 → is_label_in members told.label ≡ false → (later deeper : ℕ) → later ≡ mask_l (map is_ready members ++ is_ready told ∷ []) → deeper ≡ mask_l (map is_inner members ++ told.inner ∷ []) → IsReadyList (members ++ told ∷ []) later deeper
 push_list members ready inner roster told room absent later deeper is in_is = record {
   few = omega (arith, length-append members (told ∷ []));
   marked = is ∙ ap mask_l (sym (map-append is_ready members (told ∷ [])));
@@ -160,7 +160,7 @@ push_list members ready inner roster told room absent later deeper is in_is = re
 
 -- one member is taken out
 
-pub remove_list : (members : List Told) (ready inner : ℕ) → IsReadyList members ready inner → (at : ℕ) (told : Told) → slice_get members at ≡ Some told → at < length members → (later deeper : ℕ) → later ≡ mask_l (remove (map is_ready members) at) → deeper ≡ mask_l (remove (map is_inner members) at) → IsReadyList (remove members at) later deeper
+pub remove_list : (members : List TrackedMember) (ready inner : ℕ) → IsReadyList members ready inner → (at : ℕ) (told : TrackedMember) → slice_get members at ≡ Some told → at < length members → (later deeper : ℕ) → later ≡ mask_l (remove (map is_ready members) at) → deeper ≡ mask_l (remove (map is_inner members) at) → IsReadyList (remove members at) later deeper
 remove_list members ready inner roster at told here within later deeper is in_is = record {
   few = let less = length-remove members at within in let most = roster.few in omega arith;
   marked = is ∙ ap mask_l (sym (map_remove is_ready members at));
@@ -171,10 +171,10 @@ remove_list members ready inner roster at told here within later deeper is in_is
 equal_label : (a b : ℕ) → (a == b) ≡ true → a ≡ b
 equal_label a b is = grind (arith, nat_tests)
 
-pub labelled_at : (members : List Told) (label at : ℕ) (told : Told) → at ≡ position_or_len (has_label label) members → slice_get members at ≡ Some told → (find (has_label label) members ≡ Some told) × (told.label ≡ label)
+pub labelled_at : (members : List TrackedMember) (label at : ℕ) (told : TrackedMember) → at ≡ position_or_len (has_label label) members → slice_get members at ≡ Some told → (find (has_label label) members ≡ Some told) × (told.label ≡ label)
 labelled_at members label at told is here =
     let found = find_at (has_label label) members ∙ ap (slice_get members) (sym is) ∙ here in
     (found, equal_label told.label label (found_passes (has_label label) members told found))
 
-pub label_past : (members : List Told) (label at : ℕ) → at ≡ position_or_len (has_label label) members → length members ≤ at → find (has_label label) members ≡ None
+pub label_past : (members : List TrackedMember) (label at : ℕ) → at ≡ position_or_len (has_label label) members → length members ≤ at → find (has_label label) members ≡ None
 label_past members label at is high = find_at (has_label label) members ∙ ap (slice_get members) (sym is) ∙ none_at members at high

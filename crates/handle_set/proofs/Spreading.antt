@@ -8,7 +8,7 @@ use Rattle.std.specs.Option.{IfSome, option_map}
 use Rattle.std.proofs.lemmas.Bool.{cases_eq, false≢true}
 use Rattle.std.proofs.lemmas.List.{map-set}
 use Rattle.kernel_values.specs.declared.flags.Events.{Events}
-use Rattle.handle_set.specs.declared.records.Told.{Told}
+use Rattle.handle_set.specs.declared.records.TrackedMember.{TrackedMember}
 use Rattle.handle_set.specs.declared.settle.OpenSet.{OpenSet}
 use Rattle.handle_set.specs.Holders.{IsHeld, is_holder}
 use Rattle.handle_set.specs.Members.{has_object, map_at, with_events, with_told}
@@ -155,7 +155,7 @@ spread_all who holders object events before now held all spread = record {
 
 -- one set is told
 
-told_other : (object : ℕ) (events : Events) (told : Told) → (told.object.serial == object) ≡ false → with_told object events told ≡ told
+told_other : (object : ℕ) (events : Events) (told : TrackedMember) → (told.object.serial == object) ≡ false → with_told object events told ≡ told
 told_other object events told other = ap (λ b. cond b (with_events events told) told) other
 
 module _ (object : ℕ) (events : Events) (sets : List OpenSet) (place : ℕ) (s : OpenSet) (here : slice_get sets place ≡ Some s) (once : AreOnce (map id_of sets)) where
@@ -171,7 +171,7 @@ module _ (object : ℕ) (events : Events) (sets : List OpenSet) (place : ℕ) (s
       → AreRight was right sets → AreRight (λ id n. claim id n && q n) right (set sets place (set_told object events s))
   one_right q same right claim was known more rights k t at j told there claimed = by_place (cases_eq k place)
     where
-      by_test : (v : Told) (b : Bool) → (v.object.serial == object) ≡ b → (was s.id v.object.serial ≡ true → v.events.0 ≡ events_in right sets v.object.serial) → (claim s.id (cond b (with_events events v) v).object.serial && q (cond b (with_events events v) v).object.serial) ≡ true → (cond b (with_events events v) v).events.0 ≡ events_in right (set sets place (set_told object events s)) (cond b (with_events events v) v).object.serial
+      by_test : (v : TrackedMember) (b : Bool) → (v.object.serial == object) ≡ b → (was s.id v.object.serial ≡ true → v.events.0 ≡ events_in right sets v.object.serial) → (claim s.id (cond b (with_events events v) v).object.serial && q (cond b (with_events events v) v).object.serial) ≡ true → (cond b (with_events events v) v).events.0 ≡ events_in right (set sets place (set_told object events s)) (cond b (with_events events v) v).object.serial
       by_test v true is old claims =
           let c = both (claim s.id v.object.serial) (q v.object.serial) claims in
           sym (ap (event_or (right v.object.serial)) (same v.object.serial c.1) ∙ ap (events_in right sets) (equal_ids v.object.serial object is) ∙ known)
@@ -206,7 +206,7 @@ module _ (object : ℕ) (events : Events) (sets : List OpenSet) (place : ℕ) (s
 
   -- a set that turns has the object as a member
   module _ (turned : has_ready (set_told object events s) ≡ not (has_ready s)) where
-    has_it : (j : ℕ) × (t : Told) × (slice_get s.members j ≡ Some t) × (has_object object t ≡ true)
+    has_it : (j : ℕ) × (t : TrackedMember) × (slice_get s.members j ≡ Some t) × (has_object object t ≡ true)
     has_it = any_at (has_object object) s.members (by_test (list_any (has_object object) s.members) refl)
       where
         differs : (b : Bool) → b ≡ not b → ⊥
@@ -377,11 +377,11 @@ module _ (object : ℕ) (events : Events) (sets now : List OpenSet) (spread : Is
       rights : AreRight (λ id n. is_open sets n) (λ n. events.0) now
       rights = spread.right (λ n. events.0) (λ id n. is_open sets n) (λ id n. is_open sets n && not (n == object)) (own (λ n. events.0) refl) (λ id n claimed. rest_of (is_open sets) id n claimed) was
 
-      by_ready : (t : Told) (o : Option Bool) → t.events.0 ≡ event_or events.0 o → are_of o t.events
+      by_ready : (t : TrackedMember) (o : Option Bool) → t.events.0 ≡ event_or events.0 o → are_of o t.events
       by_ready t None is = tt
       by_ready t (Some ready) is = same_events t.events (ready_events ready) is
 
-      by_open : (t : Told) (b : Bool) → is_open now t.object.serial ≡ b → (is_open sets t.object.serial ≡ true → t.events.0 ≡ events_in (λ n. events.0) now t.object.serial) → are_of (ready_in now t.object.serial) t.events
+      by_open : (t : TrackedMember) (b : Bool) → is_open now t.object.serial ≡ b → (is_open sets t.object.serial ≡ true → t.events.0 ≡ events_in (λ n. events.0) now t.object.serial) → are_of (ready_in now t.object.serial) t.events
       by_open t true is right = by_ready t (ready_in now t.object.serial) (right (sym (same_open now sets t.object.serial spread.shape) ∙ is))
       by_open t false is right = subst (λ o. are_of (option_map has_ready o) t.events) (sym (none_found now t.object.serial is)) tt
 
@@ -409,6 +409,6 @@ module _ (object : ℕ) (events : Events) (sets now : List OpenSet) (spread : Is
       rights : AreRight (λ id n. not (is_open sets n)) right now
       rights = spread.right right (λ id n. not (is_open sets n)) (λ id n. not (is_open sets n) && not (n == object)) (own right (rw (eq-eqb object object refl) refl)) (λ id n claimed. rest_of (λ m. not (is_open sets m)) id n claimed) was
 
-      by_test : (t : Told) (b : Bool) → ((t.object.serial == object) ≡ true → events.0 ≡ f t.object.serial) → (t.object.serial == object) ≡ b → cond b events.0 (f t.object.serial) ≡ f t.object.serial
+      by_test : (t : TrackedMember) (b : Bool) → ((t.object.serial == object) ≡ true → events.0 ≡ f t.object.serial) → (t.object.serial == object) ≡ b → cond b events.0 (f t.object.serial) ≡ f t.object.serial
       by_test t true own is = own is
       by_test t false own is = refl

@@ -12,7 +12,7 @@ use Rattle.kernel_types.specs.Reach.{is_in}
 use Rattle.kernel_types.specs.Sets.{members_of, with_member}
 use Rattle.kernel_laws.proofs.Found.{found, found_is}
 use Rattle.set_laws.specs.Chains.{ChainFrom, HasMember, HasShortChains, IsSet}
-use Rattle.handle_set.specs.declared.records.Told.{Told}
+use Rattle.handle_set.specs.declared.records.TrackedMember.{TrackedMember}
 use Rattle.handle_set.specs.declared.settle.OpenSet.{OpenSet}
 use Rattle.handle_set.specs.Adding.{with_pushed}
 use Rattle.handle_set.specs.Chains.{member_of, object_value, objects_in, objects_of, set_value}
@@ -78,13 +78,13 @@ found_stands (x ∷ xs) id s some = by_test (x.id == id) refl some (found_stands
 
 -- the objects of the members
 
-pub record Has (members : List Told) (object : ℕ) : Type 0 where
+pub record Has (members : List TrackedMember) (object : ℕ) : Type 0 where
   pub at : ℕ
-  pub told : Told
+  pub told : TrackedMember
   pub here : slice_get members at ≡ Some told
   pub same : told.object.serial ≡ object
 
-pub member_told : (members : List Told) (object : ℕ) → is_in (objects_in members) object ≡ true → Has members object
+pub member_told : (members : List TrackedMember) (object : ℕ) → is_in (objects_in members) object ≡ true → Has members object
 member_told [] object is = absurd (cc)
 member_told (x ∷ xs) object is = by_test (x.object.serial == object) refl is (member_told xs object)
   where
@@ -92,11 +92,11 @@ member_told (x ∷ xs) object is = by_test (x.object.serial == object) refl is (
     by_test true same first rest = record { at = 0; told = x; here = refl; same = equal x.object.serial object same }
     by_test false same more rest = let r = rest more in record { at = suc r.at; told = r.told; here = r.here; same = r.same }
 
-pub told_member : (members : List Told) (k : ℕ) (told : Told) → slice_get members k ≡ Some told → is_in (objects_in members) told.object.serial ≡ true
+pub told_member : (members : List TrackedMember) (k : ℕ) (told : TrackedMember) → slice_get members k ≡ Some told → is_in (objects_in members) told.object.serial ≡ true
 told_member [] k told here = absurd (cc)
 told_member (x ∷ xs) zero told here =
     let is = some_same x told here in
-    let same = eq-eqb x.object.serial told.object.serial (ap (λ (t : Told). t.object.serial) is) in
+    let same = eq-eqb x.object.serial told.object.serial (ap (λ (t : TrackedMember). t.object.serial) is) in
     rw same refl
 told_member (x ∷ xs) (suc k) told here = either (x.object.serial == told.object.serial) (told_member xs k told here)
   where
@@ -117,7 +117,7 @@ has_held sets outer inner holds = by_found (find (has_id outer) sets) refl (ap (
     by_found None is none = absurd (cc)
     by_found (Some s) is some = record { set = s; stands = found_stands sets outer s is; has = member_told s.members inner some }
 
-pub held_has : (sets : List OpenSet) → AreOnce (map id_of sets) → (k : ℕ) (s : OpenSet) → slice_get sets k ≡ Some s → (j : ℕ) (told : Told) → slice_get s.members j ≡ Some told → HasMember (objects_of sets) s.id told.object.serial
+pub held_has : (sets : List OpenSet) → AreOnce (map id_of sets) → (k : ℕ) (s : OpenSet) → slice_get sets k ≡ Some s → (j : ℕ) (told : TrackedMember) → slice_get s.members j ≡ Some told → HasMember (objects_of sets) s.id told.object.serial
 held_has sets once k s at j told there = ap (λ o. is_in (members_of o) told.object.serial) (set_at sets once k s at) ∙ told_member s.members j told there
 
 pub set_stands : (sets : List OpenSet) (id : ℕ) → IsSet (objects_of sets) id → (s : OpenSet) × Stands sets id s
@@ -159,7 +159,7 @@ objects_place (x ∷ xs) id = by_test (x.id == id) (objects_place xs id)
     by_test true rest = refl
     by_test false rest = ap (λ n. 1 + n) rest
 
-pub objects_added : (sets : List OpenSet) (id place : ℕ) (s : OpenSet) (told : Told) → place ≡ position_or_len (has_id id) sets → slice_get sets place ≡ Some s → changed (on_set (with_member (member_of told))) (objects_of sets) id ≡ objects_of (set sets place (with_changed (with_pushed told) s))
+pub objects_added : (sets : List OpenSet) (id place : ℕ) (s : OpenSet) (told : TrackedMember) → place ≡ position_or_len (has_id id) sets → slice_get sets place ≡ Some s → changed (on_set (with_member (member_of told))) (objects_of sets) id ≡ objects_of (set sets place (with_changed (with_pushed told) s))
 objects_added sets id place s told is here =
     let change : Object → Object = on_body (on_set (with_member (member_of told))) in
     let where_is : place_of (objects_of sets) id ≡ place = objects_place sets id ∙ sym is in

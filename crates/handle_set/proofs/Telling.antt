@@ -3,7 +3,7 @@ use Rattle.std.proofs.Common.{◌≡◌, ℕ, ◌==◌, Bool, true, false, cond,
 use Rattle.std.specs.Option.{option_map}
 use Rattle.std.proofs.lemmas.Bool.{false≢true}
 use Rattle.kernel_values.specs.declared.flags.Events.{Events}
-use Rattle.handle_set.specs.declared.records.Told.{Told}
+use Rattle.handle_set.specs.declared.records.TrackedMember.{TrackedMember}
 use Rattle.handle_set.specs.declared.settle.OpenSet.{OpenSet}
 use Rattle.handle_set.specs.Members.{with_events, with_told}
 use Rattle.handle_set.specs.Sets.{has_ready, ready_events, ready_in, settled_in, id_of, is_open, Each, IsKnown, IsSettled, IsUpToDate, AreOnce, LeavesFollow, set_told, are_of, CanHave}
@@ -17,7 +17,7 @@ pub told_ids : (object : ℕ) (events : Events) (sets : List OpenSet) → map id
 told_ids object events [] = refl
 told_ids object events (x ∷ xs) = ap (λ ns. x.id ∷ ns) (told_ids object events xs)
 
-kept_inner : (events : Events) (told : Told) (b : Bool) → (cond b (with_events events told) told).inner ≡ told.inner
+kept_inner : (events : Events) (told : TrackedMember) (b : Bool) → (cond b (with_events events told) told).inner ≡ told.inner
 kept_inner events told true = refl
 kept_inner events told false = refl
 
@@ -38,10 +38,10 @@ module _ (object : ℕ) (events : Events) (sets now : List OpenSet) (settled : I
   but k s at j t there other = told_of (ready_in sets t.object.serial) t (get_mapped (settled_in sets) s.members j t there (settled.exact k s at))
 
   -- what the sets with the object told say of a member
-  told_at : (f : ℕ → ℕ) → LeavesFollow f (map (set_told object events) sets) → (k : ℕ) (s : OpenSet) → slice_get sets k ≡ Some s → (j : ℕ) (t : Told) → slice_get s.members j ≡ Some t → (b : Bool) → (t.object.serial == object) ≡ b → is_open sets t.object.serial ≡ false → (cond b (with_events events t) t).events.0 ≡ f t.object.serial
+  told_at : (f : ℕ → ℕ) → LeavesFollow f (map (set_told object events) sets) → (k : ℕ) (s : OpenSet) → slice_get sets k ≡ Some s → (j : ℕ) (t : TrackedMember) → slice_get s.members j ≡ Some t → (b : Bool) → (t.object.serial == object) ≡ b → is_open sets t.object.serial ≡ false → (cond b (with_events events t) t).events.0 ≡ f t.object.serial
   told_at f follow k s at j t there b is closed =
       let told = follow k (set_told object events s) (get_map (set_told object events) sets k s at) j (with_told object events t) (get_map (with_told object events) s.members j t there) in
-      let P : Told → Type 0 = λ u. is_open (map (set_told object events) sets) u.object.serial ≡ false → u.events.0 ≡ f u.object.serial in
+      let P : TrackedMember → Type 0 = λ u. is_open (map (set_told object events) sets) u.object.serial ≡ false → u.events.0 ≡ f u.object.serial in
       by_test b (subst P (ap (λ c. cond c (with_events events t) t) is) told) (told_open object events sets t.object.serial ∙ closed)
     where
       by_test : (c : Bool) → (is_open (map (set_told object events) sets) (cond c (with_events events t) t).object.serial ≡ false → (cond c (with_events events t) t).events.0 ≡ f (cond c (with_events events t) t).object.serial) → is_open (map (set_told object events) sets) t.object.serial ≡ false → (cond c (with_events events t) t).events.0 ≡ f t.object.serial

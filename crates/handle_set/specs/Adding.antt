@@ -4,7 +4,7 @@ use Rattle.std.specs.List.{find}
 use Rattle.kernel_values.specs.declared.flags.Events.{Events}
 use Rattle.kernel_types.specs.Events.{chain_limit}
 use Rattle.kernel_types.specs.Sets.{is_or_contains, chain_through, member_limit}
-use Rattle.handle_set.specs.declared.records.Told.{Told}
+use Rattle.handle_set.specs.declared.records.TrackedMember.{TrackedMember}
 use Rattle.handle_set.specs.declared.adding.Member.{Member}
 use Rattle.handle_set.specs.declared.adding.SetRefused.{SetRefused}
 use Rattle.handle_set.specs.declared.adding.SetRefused.TheVariants as refused
@@ -12,7 +12,7 @@ use Rattle.handle_set.specs.declared.settle.OpenSet.{OpenSet}
 use Rattle.handle_set.specs.Chains.{objects_of}
 use Rattle.handle_set.specs.Sets.{has_id, has_labelled, is_open, members_changed}
 
-abbrev pub members_in : Option OpenSet → List Told
+abbrev pub members_in : Option OpenSet → List TrackedMember
 members_in None = []
 members_in (Some set) = set.members
 
@@ -26,7 +26,7 @@ add_refusal sets id member =
     else None)
 
 -- a member with the events that its object has
-abbrev pub told_as : List OpenSet → Member → Events → Told
+abbrev pub told_as : List OpenSet → Member → Events → TrackedMember
 told_as sets member events = record {
   label = member.label;
   object = member.object;
@@ -36,7 +36,7 @@ told_as sets member events = record {
   inner = is_open sets member.object.serial;
 }
 
-abbrev pub with_pushed : Told → List Told → List Told
+abbrev pub with_pushed : TrackedMember → List TrackedMember → List TrackedMember
 with_pushed told members = members ++ told ∷ []
 
 -- the sets with one more member, which goes last

@@ -5,7 +5,7 @@ use Rattle.std.specs.List.{list_any, find, filter, position_or_len}
 use Rattle.std.specs.Option.{option_map}
 use Rattle.object_store.specs.declared.key.ObjKey.{ObjKey}
 use Rattle.kernel_values.specs.declared.flags.Events.{Events}
-use Rattle.handle_set.specs.declared.records.Told.{Told}
+use Rattle.handle_set.specs.declared.records.TrackedMember.{TrackedMember}
 use Rattle.handle_set.specs.declared.settle.OpenSet.{OpenSet}
 use Rattle.handle_set.specs.declared.ready_list.Picked.{Picked}
 use Rattle.handle_set.specs.Members.{is_ready, has_label, has_object, is_label_in, is_other, object_of, remasked, with_events, with_told, map_at, after_pick, picked}
@@ -24,15 +24,15 @@ abbrev pub ready_events : Bool → Events
 ready_events true = record { 0 = 1 }
 ready_events false = record { 0 = 0 }
 
-abbrev pub settled_told : Option Bool → Told → Told
+abbrev pub settled_told : Option Bool → TrackedMember → TrackedMember
 settled_told None told = told
 settled_told (Some ready) told = with_events (ready_events ready) told
 
 -- a member with the events that its object has, where that is an open set
-abbrev pub settled_in : List OpenSet → Told → Told
+abbrev pub settled_in : List OpenSet → TrackedMember → TrackedMember
 settled_in sets told = settled_told (ready_in sets told.object.serial) told
 
-abbrev pub with_members : List Told → OpenSet → OpenSet
+abbrev pub with_members : List TrackedMember → OpenSet → OpenSet
 with_members members set = record set { members = members }
 
 -- each item of a list
@@ -64,7 +64,7 @@ abbrev pub is_open : List OpenSet → ℕ → Bool
 is_open sets id = list_any (has_id id) sets
 
 -- what told events leave as it is
-abbrev pub bare_told : Told → Told
+abbrev pub bare_told : TrackedMember → TrackedMember
 bare_told told = with_events (ready_events false) told
 
 abbrev pub bare : OpenSet → OpenSet
@@ -83,7 +83,7 @@ abbrev pub Follows : (ℕ → ℕ) → List OpenSet → Type 0
 Follows events sets = Each sets (λ set. Each set.members (λ told. told.events.0 ≡ events told.object.serial))
 
 -- `events` gives each open set READY exactly where a member's object has an event of its mask
-abbrev pub is_ready_by : (ℕ → ℕ) → Told → Bool
+abbrev pub is_ready_by : (ℕ → ℕ) → TrackedMember → Bool
 is_ready_by events told = not (bit_and (events told.object.serial) told.mask.0 == 0)
 
 abbrev pub IsOfSets : (ℕ → ℕ) → List OpenSet → Type 0
@@ -148,32 +148,32 @@ pub record IsUpToDate (changed now : List OpenSet) : Type 0 where
   pub exact : IsExact now
 
 -- the sets with the members of one changed
-abbrev pub with_changed : (List Told → List Told) → OpenSet → OpenSet
+abbrev pub with_changed : (List TrackedMember → List TrackedMember) → OpenSet → OpenSet
 with_changed change set = with_members (change set.members) set
 
-abbrev pub members_changed : (List Told → List Told) → ℕ → List OpenSet → List OpenSet
+abbrev pub members_changed : (List TrackedMember → List TrackedMember) → ℕ → List OpenSet → List OpenSet
 members_changed change id sets = map_at (with_changed change) (position_or_len (has_id id) sets) sets
 
 -- what is said of an open set's members, where it is open
-abbrev pub of_set : {X : Type 0} → (List Told → Option X) → Option OpenSet → Option X
+abbrev pub of_set : {X : Type 0} → (List TrackedMember → Option X) → Option OpenSet → Option X
 of_set f None = None
 of_set f (Some set) = f set.members
 
 -- a report of a set, and what it makes of the members
-abbrev pub first_ready : List Told → Option Picked
+abbrev pub first_ready : List TrackedMember → Option Picked
 first_ready members = option_map picked (find is_ready members)
 
-abbrev pub reported : List Told → List Told
+abbrev pub reported : List TrackedMember → List TrackedMember
 reported members = after_pick members (find is_ready members)
 
 -- the object of the member under a label, and the members without it
-abbrev pub labelled : ℕ → List Told → Option ObjKey
+abbrev pub labelled : ℕ → List TrackedMember → Option ObjKey
 labelled label members = option_map object_of (find (has_label label) members)
 
-abbrev pub without_label : ℕ → List Told → List Told
+abbrev pub without_label : ℕ → List TrackedMember → List TrackedMember
 without_label label members = filter (is_other label) members
 
-abbrev pub remasked_at : ℕ → Events → ℕ → List Told → List Told
+abbrev pub remasked_at : ℕ → Events → ℕ → List TrackedMember → List TrackedMember
 remasked_at label mask cookie members = remasked label mask cookie members
 
 -- whether a set has a member under a label
@@ -182,7 +182,7 @@ has_labelled label None = false
 has_labelled label (Some set) = is_label_in set.members label
 
 -- the first member of a set that ends; a set without members is closed
-abbrev pub first_object : List Told → Option ObjKey
+abbrev pub first_object : List TrackedMember → Option ObjKey
 first_object members = option_map object_of (slice_get members 0)
 
 abbrev pub is_other_set : ℕ → OpenSet → Bool

@@ -14,7 +14,7 @@ ghost use Rattle.handle_set.specs.Within.{is_within};
 use crate::holders::register;
 use crate::members;
 use crate::ready_list::ReadyList;
-use crate::records::Told;
+use crate::records::TrackedMember;
 use crate::settle::{CHAIN_LIMIT, OpenSet, holds, id_at, is_ready_at, place_of, settle_after};
 use kernel_values::{Events, Handle, NoMemory};
 use object_store::ObjKey;
@@ -201,10 +201,10 @@ pub fn refusal(sets: &[OpenSet], id: u64, member: Member) -> Option<SetRefused>
 }
 
 // A member with the events of its object.
-fn told_as(sets: &[OpenSet], member: Member, events: Events) -> Told
+fn told_as(sets: &[OpenSet], member: Member, events: Events) -> TrackedMember
     ensures { result ≡ told_as sets.now member events }
 {
-    Told {
+    TrackedMember {
         label: member.label,
         object: member.object,
         mask: member.mask,

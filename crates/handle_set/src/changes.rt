@@ -10,7 +10,7 @@ ghost use Rattle.handle_set.specs.Sets.{AreOnce, CanHave, IsSettled, IsUpToDate,
 use crate::holders::release;
 use crate::members;
 use crate::ready_list::Picked;
-use crate::records::Told;
+use crate::records::TrackedMember;
 use crate::settle::{
     CHAIN_LIMIT, OpenSet, find_place, holds, is_ready_at, place_of, settle_after, spread,
 };

@@ -14,7 +14,7 @@ pub mod steps;
 
 pub use adding::{Member, SetRefused};
 pub use ready_list::{Picked, ReadyList};
-pub use records::{Records, Told};
+pub use records::{Records, TrackedMember};
 pub use sets::Sets;
 pub use settle::OpenSet;
 pub use steps::Steps;

@@ -5,7 +5,7 @@ ghost use Rattle.std.specs.List.{list_any, filter, position_or_len};
 ghost use Rattle.handle_set.specs.Members.{has_label, is_label_in, is_other, object_of, remasked, with_events_at, with_told, has_object};
 
 use crate::ready_list::ReadyList;
-use crate::records::Told;
+use crate::records::TrackedMember;
 use crate::steps::Steps;
 use kernel_values::{Events, Handle};
 use object_store::ObjKey;
@@ -13,7 +13,7 @@ use std::marker::Brand;
 use std::sync::ledger::{Blank, Ledger};
 
 // Reads with a counter of the ledger that the blank opens.
-fn look_with<L: Ledger>(blank: Blank, list: &ReadyList, at: usize) -> Told
+fn look_with<L: Ledger>(blank: Blank, list: &ReadyList, at: usize) -> TrackedMember
     requires name { blank.name ≡ L.name }
     requires parts { blank.parts ≡ L.parts }
     requires some { 0 < blank.parts }
@@ -26,7 +26,7 @@ fn look_with<L: Ledger>(blank: Blank, list: &ReadyList, at: usize) -> Told
 }
 
 /// The member at a place.
-pub fn member(list: &ReadyList, at: usize) -> Told
+pub fn member(list: &ReadyList, at: usize) -> TrackedMember
     requires { at < length list.now }
     ensures { slice_get list.now at ≡ Some result }
 {

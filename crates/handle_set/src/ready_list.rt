@@ -6,7 +6,7 @@ ghost use Rattle.std.specs.List.{remove, list_any};
 ghost use lib.Lanes.{mask_l};
 ghost use Rattle.handle_set.specs.Members.{AreDifferent, picked, is_ready, is_inner, after_pick, is_label_in, with_events_at, with_mask_at};
 
-use crate::records::{Records, Told};
+use crate::records::{Records, TrackedMember};
 use crate::steps::Steps;
 use kernel_values::{Events, Handle, NoMemory};
 use object_store::ObjKey;
@@ -38,10 +38,10 @@ pub struct ReadyList {
 
 impl Model for ReadyList {
     ghost use Rattle.std.specs.Prelude.{List};
-    ghost use Rattle.handle_set.specs.declared.records.Told.{Told};
+    ghost use Rattle.handle_set.specs.declared.records.TrackedMember.{TrackedMember};
     ghost use Rattle.handle_set.specs.Rows.{IsReadyList};
 
-    ghost Value = { List Told };
+    ghost Value = { List TrackedMember };
 
     ghost view = { λ r. r.records };
 
@@ -79,7 +79,7 @@ pub fn with_bit_at(bits: u64, at: usize, mark: bool) -> u64
 }
 
 // Whether the record has an event of its mask.
-fn is_ready(told: &Told) -> bool
+fn is_ready(told: &TrackedMember) -> bool
     ensures { result ≡ is_ready told.now }
 {
     told.events.0 & told.mask.0 != 0
@@ -129,7 +129,7 @@ impl ReadyList {
     }
 
     /// The member at a place. The counter rises by one.
-    pub fn look<L: Ledger>(&self, at: usize, steps: &mut Steps<L>) -> Told
+    pub fn look<L: Ledger>(&self, at: usize, steps: &mut Steps<L>) -> TrackedMember
         requires within { at < length self.now }
         requires fits { steps.old.count < 2 ^ 64 - 1 }
         ensures record { slice_get self.now at ≡ Some result }
@@ -139,7 +139,7 @@ impl ReadyList {
     }
 
     /// The member at a place, which the caller has looked at, gets other events.
-    pub fn set_events(&mut self, at: usize, told: &Told, events: Events)
+    pub fn set_events(&mut self, at: usize, told: &TrackedMember, events: Events)
         requires { slice_get self.old at ≡ Some told.now }
         ensures { self.new ≡ with_events_at at events self.old }
     {
@@ -148,7 +148,7 @@ impl ReadyList {
     }
 
     /// The member at a place, which the caller has looked at, gets another mask and cookie.
-    pub fn set_mask(&mut self, at: usize, told: &Told, mask: Events, cookie: u64)
+    pub fn set_mask(&mut self, at: usize, told: &TrackedMember, mask: Events, cookie: u64)
         requires { slice_get self.old at ≡ Some told.now }
         ensures { self.new ≡ with_mask_at at mask cookie self.old }
     {
@@ -167,7 +167,7 @@ impl ReadyList {
     }
 
     /// A member goes last. Its label is a new one, and there is room.
-    pub fn push(&mut self, told: Told)
+    pub fn push(&mut self, told: TrackedMember)
         requires room { length self.old < 64 }
         requires new { is_label_in self.old told.label ≡ false }
         ensures { self.new ≡ self.old ++ told ∷ [] }

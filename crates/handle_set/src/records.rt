@@ -14,7 +14,7 @@ use std::sync::ledger::Ledger;
 
 /// A member with the events last told for its object.
 #[derive(Clone, Copy, PartialEq, Eq, Debug)]
-pub struct Told {
+pub struct TrackedMember {
     pub label: u32,
     pub object: ObjKey,
     pub mask: Events,
@@ -38,7 +38,7 @@ const IN_TURN: [u8; ROWS] = [
 /// changes, bytes move and no record.
 #[derive(Drop)]
 pub struct Records {
-    rows: Vec<Told>,
+    rows: Vec<TrackedMember>,
     // The numbers of all rows: those of the records in order, then those not in use.
     order: [u8; ROWS],
     len: usize,
@@ -46,10 +46,10 @@ pub struct Records {
 
 impl Model for Records {
     ghost use Rattle.std.specs.Prelude.{List, take};
-    ghost use Rattle.handle_set.specs.declared.records.Told.{Told};
+    ghost use Rattle.handle_set.specs.declared.records.TrackedMember.{TrackedMember};
     ghost use Rattle.handle_set.specs.Slots.{IsOrder, in_order};
 
-    ghost Value = { List Told };
+    ghost Value = { List TrackedMember };
 
     ghost view = { λ r. in_order r.rows.items (take r.len r.order) };
 
@@ -57,10 +57,10 @@ impl Model for Records {
 }
 
 // A row not in use yet.
-fn blank() -> Told
+fn blank() -> TrackedMember
     ensures { result ≡ blank }
 {
-    Told {
+    TrackedMember {
         label: 0,
         object: ObjKey { slot: 0, serial: 0 },
         mask: Events(0),
@@ -99,7 +99,7 @@ impl Records {
     }
 
     /// The record at a place. This is the one call that reads records, and it counts.
-    pub fn look<L: Ledger>(&self, at: usize, steps: &mut Steps<L>) -> Told
+    pub fn look<L: Ledger>(&self, at: usize, steps: &mut Steps<L>) -> TrackedMember
         requires within { at < length self.now }
         requires fits { steps.old.count < 2 ^ 64 - 1 }
         ensures record { slice_get self.now at ≡ Some result }
@@ -110,7 +110,7 @@ impl Records {
     }
 
     /// One more record goes last. There is room for it.
-    pub fn push(&mut self, told: Told)
+    pub fn push(&mut self, told: TrackedMember)
         requires { length self.old < 64 }
         ensures { self.new ≡ self.old ++ told ∷ [] }
     {

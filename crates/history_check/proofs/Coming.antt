@@ -19,28 +19,28 @@ use Rattle.kernel_values.specs.declared.state.State.{State}
 use Rattle.kernel_types.specs.Facts.{status_at}
 use Rattle.kernel_types.specs.History.{step_entry}
 use Rattle.kernel_types.specs.Scripts.{Stand, next_call, answered, stand_on, script_begin, one_if, led_by, calls_from, calls_of}
-use Rattle.kernel_types.specs.Step.{Stepped, full_step}
+use Rattle.kernel_types.specs.Step.{Stepped, step}
 use Rattle.kernel_types.specs.Whole.{calls_in, answers_in, call_by, answer_by, is_by}
 use Rattle.kernel_types.proofs.Actors.{begin_is_of_running, resume_is_of_waiting}
 use Rattle.report_text.proofs.Lawful.{stepped}
 use Rattle.runners.specs.declared.place.Place.{Place}
-use Rattle.runners.specs.Places.{Fits, Kept, after_answer, pending}
+use Rattle.runners.specs.Places.{PlaceFits, PlacesFit, after_answer, pending}
 use Rattle.runners.proofs.Fitting.{fits_begin, fits_resume, fits_other, IsNotBy}
 use Rattle.runners.proofs.Stepping.{kept_own, begin_not_by, resume_not_by}
-use Rattle.history_check.specs.Standing.{CanCome, IsEventOf}
+use Rattle.history_check.specs.Matching.{CanCome, IsEventOf}
 
 -- The status of the actor of a lawful event.
 
 pub begin_runs : (s : State) (actor start : ℕ) (asked : Call) (entry : Entry) → step_entry s (event.Begin (record { 0 = actor }) start asked) ≡ Some entry
     → status_at s actor ≡ Some (status.Running start)
-unfolding full_step
-begin_runs s actor start asked entry h = let found : (r : Stepped) × (full_step s (event.Begin (record { 0 = actor }) start asked) ≡ Some r) = stepped s (event.Begin (record { 0 = actor }) start asked) entry h in
+unfolding step
+begin_runs s actor start asked entry h = let found : (r : Stepped) × (step s (event.Begin (record { 0 = actor }) start asked) ≡ Some r) = stepped s (event.Begin (record { 0 = actor }) start asked) entry h in
     begin_is_of_running s actor start asked found.0 found.1
 
 pub resume_waits : (s : State) (actor start : ℕ) (entry : Entry) → step_entry s (event.Resume (record { 0 = actor }) start) ≡ Some entry
     → status_at s actor ≡ Some (status.Waiting start)
-unfolding full_step
-resume_waits s actor start entry h = let found : (r : Stepped) × (full_step s (event.Resume (record { 0 = actor }) start) ≡ Some r) = stepped s (event.Resume (record { 0 = actor }) start) entry h in
+unfolding step
+resume_waits s actor start entry h = let found : (r : Stepped) × (step s (event.Resume (record { 0 = actor }) start) ≡ Some r) = stepped s (event.Resume (record { 0 = actor }) start) entry h in
     resume_is_of_waiting s actor start found.0 found.1
 
 -- The call behind those that were answered is the script's next one.
@@ -89,7 +89,7 @@ answers_split number start entries later = filter_map-append (answer_by number s
 
 -- a call of an actor that has all answers
 module _ (scripts : List (List Command)) (s : State) (entries : List Entry) (number start : ℕ) (script : List Command) (place : Place)
-    (script_is : slice_get scripts number ≡ Some script) (f : Fits number script entries place) (runs : place.waits ≡ false) (start_is : place.actor.start ≡ start) where
+    (script_is : slice_get scripts number ≡ Some script) (f : PlaceFits number script entries place) (runs : place.waits ≡ false) (start_is : place.actor.start ≡ start) where
   even : length (calls_in number start entries) ≡ length (answers_in number start entries)
   even = subst (λ n. length (calls_in number n entries) ≡ length (answers_in number n entries)) start_is
       (omega (arith, f.count ∙ ap (λ (b : Bool). length (answers_in number place.actor.start entries) + pending b) runs))
@@ -172,72 +172,72 @@ find_script [] number below = absurd (omega arith)
 find_script (script ∷ scripts) zero below = (script, refl)
 find_script (script ∷ scripts) (suc number) below = find_script scripts number (omega arith)
 
-pub place_of : (scripts : List (List Command)) (places : List Place) (entries : List Entry) (number : ℕ) (script : List Command) (place : Place) → Kept scripts places entries
-    → slice_get scripts number ≡ Some script → slice_get places number ≡ Some place → Fits number script entries place
+pub place_of : (scripts : List (List Command)) (places : List Place) (entries : List Entry) (number : ℕ) (script : List Command) (place : Place) → PlacesFit scripts places entries
+    → slice_get scripts number ≡ Some script → slice_get places number ≡ Some place → PlaceFits number script entries place
 place_of scripts places entries number script place kept script_is there =
     let found = kept number script script_is in
     let same : found.0 ≡ place = (let both : Some found.0 ≡ Some place = sym found.1 ∙ there in cc) in
-    subst (λ p. Fits number script entries p) same found.2
+    subst (λ p. PlaceFits number script entries p) same found.2
 
 -- What comes of an actor that runs, and of one that waits.
 module _ (scripts : List (List Command)) (places : List Place) (s : State) (number start : ℕ) (place : Place) (below : number < length scripts) (there : slice_get places number ≡ Some place) where
   abbrev script : List Command
   script = (find_script scripts number below).0
 
-  here : (entries : List Entry) → Kept scripts places entries → Fits number script entries place
+  here : (entries : List Entry) → PlacesFit scripts places entries → PlaceFits number script entries place
   here entries kept = place_of scripts places entries number script place kept (find_script scripts number below).1 there
 
   module _ (runs : place.waits ≡ false) (start_is : place.actor.start ≡ start) (status_is : status_at s number ≡ Some (status.Running start)) where
-    pub no_call : next_call place.actor.script place.actor.stand ≡ None → (entries : List Entry) → Kept scripts places entries → (other : Entry) → CanCome scripts s entries (turn.Actor number) other → ⊥
+    pub no_call : next_call place.actor.script place.actor.stand ≡ None → (entries : List Entry) → PlacesFit scripts places entries → (other : Entry) → CanCome scripts s entries (turn.Actor number) other → ⊥
     no_call none entries kept other can =
         let e = begun s number start other.event other status_is can.of can.step_is in
         let next : next_call place.actor.script place.actor.stand ≡ Some e.0 = called scripts s entries number start script place (find_script scripts number below).1 (here entries kept) runs start_is other e.0 can e.1 in
         absurd (let both : None ≡ Some e.0 = sym none ∙ next in cc)
 
     module _ (asked : Call) (next : next_call place.actor.script place.actor.stand ≡ Some asked) where
-      event_is : (entries : List Entry) → Kept scripts places entries → (other : Entry) → CanCome scripts s entries (turn.Actor number) other → other.event ≡ event.Begin (record { 0 = number }) start asked
+      event_is : (entries : List Entry) → PlacesFit scripts places entries → (other : Entry) → CanCome scripts s entries (turn.Actor number) other → other.event ≡ event.Begin (record { 0 = number }) start asked
       event_is entries kept other can =
           let e = begun s number start other.event other status_is can.of can.step_is in
           let found : next_call place.actor.script place.actor.stand ≡ Some e.0 = called scripts s entries number start script place (find_script scripts number below).1 (here entries kept) runs start_is other e.0 can e.1 in
           let same : e.0 ≡ asked = (let both : Some e.0 ≡ Some asked = sym found ∙ next in cc) in
           e.1 ∙ ap (λ c. event.Begin (record { 0 = number }) start c) same
 
-      pub call_refused : step_entry s (event.Begin (record { 0 = number }) start asked) ≡ None → (entries : List Entry) → Kept scripts places entries → (other : Entry)
+      pub call_refused : step_entry s (event.Begin (record { 0 = number }) start asked) ≡ None → (entries : List Entry) → PlacesFit scripts places entries → (other : Entry)
           → CanCome scripts s entries (turn.Actor number) other → ⊥
       call_refused none entries kept other can =
           absurd (let both : None ≡ Some other = sym none ∙ (ap (λ e. step_entry s e) (sym (event_is entries kept other can)) ∙ can.step_is) in cc)
 
-      pub call_only : (entry : Entry) → entry.event ≡ event.Begin (record { 0 = number }) start asked → step_entry s entry.event ≡ Some entry → (entries : List Entry) → Kept scripts places entries → (other : Entry)
+      pub call_only : (entry : Entry) → entry.event ≡ event.Begin (record { 0 = number }) start asked → step_entry s entry.event ≡ Some entry → (entries : List Entry) → PlacesFit scripts places entries → (other : Entry)
           → CanCome scripts s entries (turn.Actor number) other → other ≡ entry
       call_only entry is step_is entries kept other can = entry_same s (event.Begin (record { 0 = number }) start asked) entry other is (event_is entries kept other can) step_is can.step_is
 
-      pub call_kept : (entry : Entry) → entry.event ≡ event.Begin (record { 0 = number }) start asked → (entries : List Entry) → Kept scripts places entries
-          → Kept scripts (slice_set places number (after_answer place entry.answer)) (entries ++ entry ∷ [])
+      pub call_kept : (entry : Entry) → entry.event ≡ event.Begin (record { 0 = number }) start asked → (entries : List Entry) → PlacesFit scripts places entries
+          → PlacesFit scripts (slice_set places number (after_answer place entry.answer)) (entries ++ entry ∷ [])
       call_kept entry is entries kept = kept_own scripts places entries entry number place (after_answer place entry.answer) kept there
           (λ own own_is. fits_begin number start own entries entry place asked (place_of scripts places entries number own place kept own_is there) runs start_is next is)
           (λ other apart. subst (λ e. IsNotBy other e) (sym is) (begin_not_by number start asked other apart))
 
   module _ (waits : place.waits ≡ true) (start_is : place.actor.start ≡ start) (status_is : status_at s number ≡ Some (status.Waiting start)) where
-    pub end_refused : step_entry s (event.Resume (record { 0 = number }) start) ≡ None → (entries : List Entry) → Kept scripts places entries → (other : Entry)
+    pub end_refused : step_entry s (event.Resume (record { 0 = number }) start) ≡ None → (entries : List Entry) → PlacesFit scripts places entries → (other : Entry)
         → CanCome scripts s entries (turn.Actor number) other → ⊥
     end_refused none entries kept other can =
         absurd (let both : None ≡ Some other = sym none ∙ (ap (λ e. step_entry s e) (sym (resumed s number start other.event other status_is can.of can.step_is)) ∙ can.step_is) in cc)
 
-    pub end_only : (entry : Entry) → entry.event ≡ event.Resume (record { 0 = number }) start → step_entry s entry.event ≡ Some entry → (entries : List Entry) → Kept scripts places entries → (other : Entry)
+    pub end_only : (entry : Entry) → entry.event ≡ event.Resume (record { 0 = number }) start → step_entry s entry.event ≡ Some entry → (entries : List Entry) → PlacesFit scripts places entries → (other : Entry)
         → CanCome scripts s entries (turn.Actor number) other → other ≡ entry
     end_only entry is step_is entries kept other can =
         entry_same s (event.Resume (record { 0 = number }) start) entry other is (resumed s number start other.event other status_is can.of can.step_is) step_is can.step_is
 
-    pub end_kept : (entry : Entry) → entry.event ≡ event.Resume (record { 0 = number }) start → (entries : List Entry) → Kept scripts places entries
-        → Kept scripts (slice_set places number (after_answer place entry.answer)) (entries ++ entry ∷ [])
+    pub end_kept : (entry : Entry) → entry.event ≡ event.Resume (record { 0 = number }) start → (entries : List Entry) → PlacesFit scripts places entries
+        → PlacesFit scripts (slice_set places number (after_answer place entry.answer)) (entries ++ entry ∷ [])
     end_kept entry is entries kept = kept_own scripts places entries entry number place (after_answer place entry.answer) kept there
         (λ own own_is. fits_resume number start own entries entry place (place_of scripts places entries number own place kept own_is there) waits start_is is)
         (λ other apart. subst (λ e. IsNotBy other e) (sym is) (resume_not_by number start other apart))
 
 -- The device and idle.
 
-pub free_kept : (scripts : List (List Command)) (places : List Place) (entries : List Entry) (entry : Entry) → ((number : ℕ) → IsNotBy number entry.event) → Kept scripts places entries
-    → Kept scripts places (entries ++ entry ∷ [])
+pub free_kept : (scripts : List (List Command)) (places : List Place) (entries : List Entry) (entry : Entry) → ((number : ℕ) → IsNotBy number entry.event) → PlacesFit scripts places entries
+    → PlacesFit scripts places (entries ++ entry ∷ [])
 free_kept scripts places entries entry apart kept number script script_is =
     let old = kept number script script_is in (old.0, old.1, fits_other number script entries entry old.0 (apart number) old.2)
 

@@ -20,12 +20,12 @@ use Rattle.kernel_types.specs.Step.{step}
 use Rattle.std.specs.Option.{option_map as map_option}
 use Rattle.script_actor.specs.Actors.{acting}
 use Rattle.runners.specs.declared.place.Place.{Place}
-use Rattle.runners.specs.Places.{Fits, Kept}
+use Rattle.runners.specs.Places.{PlaceFits, PlacesFit}
 use Rattle.runners.proofs.Fitting.{IsNotBy, fits_anew}
 use Rattle.runners.proofs.Stepping.{kept_one, length_set, device_not_by, idle_not_by}
 use Rattle.history_check.specs.declared.actors.Actors.{Actors}
-use Rattle.history_check.specs.Standing.{CanCome, Came, IsEventOf, NoneCan, Renewed}
-use Rattle.history_check.specs.Standing.{Fits as FitsTo}
+use Rattle.history_check.specs.Matching.{CanCome, Came, IsEventOf, NoneCan, Renewed}
+use Rattle.history_check.specs.Matching.{Matches}
 use Rattle.history_check.specs.Steps.{Stepped, SteppedBy}
 use Rattle.history_check.proofs.Coming.{call_kept, call_only, call_refused, device_event, end_kept, end_only, end_refused, free_kept, free_only, free_refused, idle_event, no_call, place_of}
 
@@ -50,7 +50,7 @@ renewed old number start script place fresh many script_is place_is later is =
       same = record { names = refl; scripts = refl; many = length_set old.places.items number fresh };
       kept = λ entries kept. kept_one old.scripts old.places.items entries number place fresh kept there
           (λ own own_is. (let same : own ≡ script = (let both : Some own ≡ Some script = sym own_is ∙ script_is in cc) in
-          subst (λ s. Fits number s entries fresh) (sym same) (subst (λ p. Fits number script entries p) (sym is)
+          subst (λ s. PlaceFits number s entries fresh) (sym same) (subst (λ p. PlaceFits number script entries p) (sym is)
           (fits_anew number start script entries place (place_of old.scripts old.places.items entries number script place kept script_is there) later))));
     }
 
@@ -59,7 +59,7 @@ renewed_none old = record { same = record { names = refl; scripts = refl; many =
 
 pub after_renewal : (turn : Turn) (old mid new : Actors) (s t : State) (made remade : ℕ) (r : Option Entry) → Renewed old mid → Came turn mid new s t made remade r → Came turn old new s t made remade r
 after_renewal turn old mid new s t made remade None again none = λ entries kept other can.
-    none entries (subst (λ cs. Kept cs mid.places.items entries) (sym again.same.scripts) (again.kept entries kept)) other (subst (λ cs. CanCome cs s entries turn other) (sym again.same.scripts) can)
+    none entries (subst (λ cs. PlacesFit cs mid.places.items entries) (sym again.same.scripts) (again.kept entries kept)) other (subst (λ cs. CanCome cs s entries turn other) (sym again.same.scripts) can)
 after_renewal turn old mid new s t made remade (Some entry) again took = record {
   same = record {
     names = took.same.names ∙ again.same.names;
@@ -69,9 +69,9 @@ after_renewal turn old mid new s t made remade (Some entry) again took = record 
   step_is = took.step_is;
   state_is = took.state_is;
   made_is = took.made_is;
-  kept = λ entries kept. subst (λ cs. Kept cs new.places.items (entries ++ entry ∷ [])) again.same.scripts
-      (took.kept entries (subst (λ cs. Kept cs mid.places.items entries) (sym again.same.scripts) (again.kept entries kept)));
-  only = λ entries kept other can. took.only entries (subst (λ cs. Kept cs mid.places.items entries) (sym again.same.scripts) (again.kept entries kept)) other
+  kept = λ entries kept. subst (λ cs. PlacesFit cs new.places.items (entries ++ entry ∷ [])) again.same.scripts
+      (took.kept entries (subst (λ cs. PlacesFit cs mid.places.items entries) (sym again.same.scripts) (again.kept entries kept)));
+  only = λ entries kept other can. took.only entries (subst (λ cs. PlacesFit cs mid.places.items entries) (sym again.same.scripts) (again.kept entries kept)) other
       (subst (λ cs. CanCome cs s entries turn other) (sym again.same.scripts) can);
 }
 
@@ -82,7 +82,7 @@ renewal_ok turn old mid new s t made remade (Err e) again p = tt
 
 -- An actor's step.
 
-module _ (old : Actors) (s : State) (number start : ℕ) (place : Place) (fit : FitsTo old s) (within : number < length old.names) (place_is : place ≡ get_or old.places.items number place)
+module _ (old : Actors) (s : State) (number start : ℕ) (place : Place) (fit : Matches old s) (within : number < length old.names) (place_is : place ≡ get_or old.places.items number place)
     (start_is : place.actor.start ≡ start) where
   below : number < length old.scripts
   below = omega (arith, fit.names, fit.scripts, within)
@@ -106,7 +106,7 @@ module _ (old : Actors) (s : State) (number start : ℕ) (place : Place) (fit : 
     step_is = event_of _ s t made remade entry did;
     state_is = did.state_is ∙ ap (λ f. next_state s f) (sym did.event_is);
     made_is = did.made_is;
-    kept = λ entries kept. subst (λ p. Kept old.scripts (slice_set old.places.items number p) (entries ++ entry ∷ [])) (sym after_is)
+    kept = λ entries kept. subst (λ p. PlacesFit old.scripts (slice_set old.places.items number p) (entries ++ entry ∷ [])) (sym after_is)
         (call_kept old.scripts old.places.items s number start place below there runs start_is status_is asked next entry did.event_is entries kept);
     only = call_only old.scripts old.places.items s number start place below there runs start_is status_is asked next entry did.event_is (event_of _ s t made remade entry did);
   }
@@ -121,7 +121,7 @@ module _ (old : Actors) (s : State) (number start : ℕ) (place : Place) (fit : 
     step_is = event_of _ s t made remade entry did;
     state_is = did.state_is ∙ ap (λ f. next_state s f) (sym did.event_is);
     made_is = did.made_is;
-    kept = λ entries kept. subst (λ p. Kept old.scripts (slice_set old.places.items number p) (entries ++ entry ∷ [])) (sym after_is)
+    kept = λ entries kept. subst (λ p. PlacesFit old.scripts (slice_set old.places.items number p) (entries ++ entry ∷ [])) (sym after_is)
         (end_kept old.scripts old.places.items s number start place below there waits start_is status_is entry did.event_is entries kept);
     only = end_only old.scripts old.places.items s number start place below there waits start_is status_is entry did.event_is (event_of _ s t made remade entry did);
   }

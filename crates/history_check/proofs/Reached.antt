@@ -20,7 +20,7 @@ use Rattle.report_text.specs.Lines.{blank, line_end, lined, spelled, text_of}
 use Rattle.report_text.specs.Names.{actor_names}
 use Rattle.report_text.specs.declared.form.Form.TheVariants.{History}
 use Rattle.report_text.proofs.WordsRead.{Digits, IsDigit, decimal_digits}
-use Rattle.runners.specs.Places.{Kept, first_place}
+use Rattle.runners.specs.Places.{PlacesFit, first_place}
 use Rattle.runners.proofs.Fitting.{fits_first}
 use Rattle.runners.proofs.Starting.{get_places}
 use Rattle.history_check.specs.declared.actors.Actors.{Actors}
@@ -149,14 +149,14 @@ pub record Reached (scene : SceneValue) (behind rest : List ℕ) (actors : Actor
   pub lawful : IsLawfulScene scene
   pub names_are : actors.names ≡ actor_names scene
   pub scripts_are : actors.scripts ≡ scripts_of scene
-  pub kept : Kept actors.scripts actors.places.items entries
+  pub kept : PlacesFit actors.scripts actors.places.items entries
   pub legal : Legal (opening scene) entries
   pub state_is : s ≡ state_after (opening scene) entries
   pub count_is : length entries ≡ k
   pub behind_is : behind ≡ lines scene entries ++ rest
   pub only : (other : List Entry) → GoesWith scene other behind → IsPrefix other entries ⊎ IsPrefix entries other
 
-follows_of : (scripts : List (List Command)) (entries : List Entry) (actors : Actors) → actors.scripts ≡ scripts → Kept actors.scripts actors.places.items entries → FollowsScripts scripts entries
+follows_of : (scripts : List (List Command)) (entries : List Entry) (actors : Actors) → actors.scripts ≡ scripts → PlacesFit actors.scripts actors.places.items entries → FollowsScripts scripts entries
 follows_of scripts entries actors is kept = subst (λ cs. FollowsScripts cs entries) is (λ actor start script script_is. (kept actor script script_is).2.in_script start)
 
 pub begun : (scene : SceneValue) (behind : List ℕ) (actors : Actors) (s : State) → Opens scene actors s → Reached scene behind behind actors s 0
@@ -216,7 +216,7 @@ module _ (scene : SceneValue) (behind rest : List ℕ) (actors : Actors) (s : St
     lawful = r.lawful;
     names_are = took.same.names ∙ r.names_are;
     scripts_are = took.same.scripts ∙ r.scripts_are;
-    kept = subst (λ cs. Kept cs new.places.items (r.entries ++ took.entry ∷ [])) (sym took.same.scripts) (took.kept r.entries r.kept);
+    kept = subst (λ cs. PlacesFit cs new.places.items (r.entries ++ took.entry ∷ [])) (sym took.same.scripts) (took.kept r.entries r.kept);
     legal = legal_more (opening scene) r.entries took.entry r.legal (subst (λ u. step_entry u took.entry.event ≡ Some took.entry) r.state_is took.step_is);
     state_is = took.state_is ∙ ap (λ u. next_state u took.entry.event) r.state_is ∙ sym (state_more (opening scene) r.entries took.entry);
     count_is = omega (arith, length-append r.entries (took.entry ∷ []), r.count_is);

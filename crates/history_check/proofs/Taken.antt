@@ -32,7 +32,7 @@ use Rattle.history_check.specs.declared.verdict.Verdict.TheVariants as verdict
 use Rattle.kernel_values.specs.declared.scene.Turn.TheVariants as turn
 use Rattle.history_check.specs.Checking.{CanFollow, Checks, Ends, IsEnd, NoLine, Opens, StandAt, TookEntry, TookLine}
 use Rattle.history_check.specs.Fronts.{IsOf, IsOfNobody}
-use Rattle.history_check.specs.Standing.{AreAtTheBeginning, Came, CanCome, Fits, IsWithin, NoneCan, SameActors, Took}
+use Rattle.history_check.specs.Matching.{AreAtTheBeginning, Came, CanCome, Matches, IsWithin, NoneCan, SameActors, Took}
 use Rattle.history_check.specs.Verdicts.{IsNo, IsVerdict, IsYes, behind_first_line, line_count}
 use Rattle.history_check.proofs.Coming.{begin_runs, resume_waits}
 use Rattle.history_check.proofs.Lined.{fewer_lines}
@@ -50,7 +50,7 @@ apart_names scene actors lawful is = subst (λ names. AreApart names) (sym is) (
 
 -- The next line.
 
-module _ (k : ℕ) (text : List ℕ) (old : Actors) (s : State) (fit : Fits old s) where
+module _ (k : ℕ) (text : List ℕ) (old : Actors) (s : State) (fit : Matches old s) where
   has_name : (names : List (List ℕ)) (plain : AllByRecursion IsWord names) (apart : AreApart names) → names ≡ old.names → (e : Event) (entry : Entry) → step_entry s e ≡ Some entry → HasName names plain apart e
   has_name names plain apart is (event.Begin actor start asked) entry step_is =
       omega (arith, ap length is, fit.names, slice_get_within (statuses s) actor.0 (status.Running start) (begin_runs s actor.0 start asked entry step_is))
@@ -139,15 +139,15 @@ limit_is = refl
 -- All lines.
 
 pub record Goes (first : Actors) (begin : State) (behind rest : List ℕ) (actors : Actors) (s : State) (made k : ℕ) : Type 0 where
-  pub fit : Fits actors s
+  pub fit : Matches actors s
   pub made_is : made ≡ k
   pub room : k + line_count rest < step_limit
   pub reached : (scene : SceneValue) → Opens scene first begin → Reached scene behind rest actors s k
 
-pub goes_first : (actors : Actors) (s : State) (behind : List ℕ) (made : ℕ) → Fits actors s → made ≡ 0 → line_count behind < step_limit → Goes actors s behind behind actors s made 0
+pub goes_first : (actors : Actors) (s : State) (behind : List ℕ) (made : ℕ) → Matches actors s → made ≡ 0 → line_count behind < step_limit → Goes actors s behind behind actors s made 0
 goes_first actors s behind made fit made_is few = record { fit = fit; made_is = made_is; room = omega (arith, few); reached = λ scene opens. begun scene behind actors s opens }
 
-fits_more : (old new : Actors) (s t : State) (e : Event) → Fits old s → SameActors old new → length (statuses t) ≡ length (statuses s) → Fits new t
+fits_more : (old new : Actors) (s t : State) (e : Event) → Matches old s → SameActors old new → length (statuses t) ≡ length (statuses s) → Matches new t
 fits_more old new s t e fit same many = record {
   names = ap length same.names ∙ (fit.names ∙ sym many);
   scripts = ap length same.scripts ∙ (fit.scripts ∙ sym many);
@@ -192,7 +192,7 @@ module _ (first : Actors) (begin : State) (behind rest : List ℕ) (actors : Act
   verdict_is t first_line (none, stays) false e told is scene opens text text_is behind_is = subst (λ v. IsVerdict scene text v) (sym is) (says_no t first_line none stays e scene opens text text_is behind_is)
 
 -- The actors of a scene at its beginning.
-pub opening_fits : (scene : SceneValue) (actors : Actors) (s : State) → IsLawfulScene scene → AreAtTheBeginning scene actors → s ≡ opening scene → Fits actors s
+pub opening_fits : (scene : SceneValue) (actors : Actors) (s : State) → IsLawfulScene scene → AreAtTheBeginning scene actors → s ≡ opening scene → Matches actors s
 opening_fits scene actors s lawful begins state_is =
     let many : length (statuses s) ≡ length (scripts_of scene) = ap (λ t. length (statuses t)) state_is ∙ actors_many scene in
     let named : length actors.names ≡ length (scripts_of scene) = ap length begins.names_are ∙ sym (scripts_of_scene scene) in

@@ -22,7 +22,7 @@ use Rattle.report_text.proofs.Fixing.{head_is, tail_is, word_ends}
 use Rattle.report_text.proofs.NamesApart.{AreApart, place_same, word_of_actor}
 use Rattle.report_text.proofs.WordsRead.{is_plain, word_by}
 use Rattle.history_check.specs.Fronts.{IsNamed, IsOf, IsOfNobody}
-use Rattle.history_check.specs.Standing.{IsEventOf}
+use Rattle.history_check.specs.Matching.{IsEventOf}
 
 -- a call's first word
 abbrev pub tag_of : Call → List ℕ

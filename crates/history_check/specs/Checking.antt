@@ -11,10 +11,10 @@ use Rattle.kernel_types.specs.Whole.{FollowsScripts}
 use Rattle.report_text.specs.Forms.{end_words, entry_words}
 use Rattle.report_text.specs.Lines.{blank, lined}
 use Rattle.report_text.specs.Names.{actor_names}
-use Rattle.runners.specs.Places.{Kept}
+use Rattle.runners.specs.Places.{PlacesFit}
 use Rattle.history_check.specs.declared.actors.Actors.{Actors}
 use Rattle.history_check.specs.declared.verdict.Verdict.{Verdict}
-use Rattle.history_check.specs.Standing.{AreAtTheBeginning, SameActors}
+use Rattle.history_check.specs.Matching.{AreAtTheBeginning, SameActors}
 use Rattle.history_check.specs.Verdicts.{IsVerdict, behind_first_line}
 
 -- the text goes on with the line of this entry, which can come next
@@ -28,7 +28,7 @@ pub record CanFollow (actors : Actors) (s : State) (entries : List Entry) (k : �
 pub record StandAt (scene : SceneValue) (actors : Actors) (entries : List Entry) : Type 0 where
   pub lawful : IsLawfulScene scene
   pub names_are : actors.names ≡ actor_names scene
-  pub kept : Kept actors.scripts actors.places.items entries
+  pub kept : PlacesFit actors.scripts actors.places.items entries
 
 -- the line of an entry was taken, and no other can come
 pub record TookLine (k : ℕ) (text rest : List ℕ) (old new : Actors) (s t : State) (made remade : ℕ) : Type 0 where
@@ -38,7 +38,7 @@ pub record TookLine (k : ℕ) (text rest : List ℕ) (old new : Actors) (s t : S
   pub step_is : step_entry s entry.event ≡ Some entry
   pub state_is : t ≡ next_state s entry.event
   pub made_is : remade ≡ made + 1
-  pub kept : (entries : List Entry) → Kept old.scripts old.places.items entries → Kept old.scripts new.places.items (entries ++ entry ∷ [])
+  pub kept : (entries : List Entry) → PlacesFit old.scripts old.places.items entries → PlacesFit old.scripts new.places.items (entries ++ entry ∷ [])
   pub only : (scene : SceneValue) (entries : List Entry) → StandAt scene old entries → (other : Entry) → CanFollow old s entries k text other → other ≡ entry
 
 -- nothing that can come next has the next line

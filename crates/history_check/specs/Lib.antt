@@ -1,6 +1,6 @@
 pub mod Verdicts
 pub mod Fronts
 pub mod Steps
-pub mod Standing
+pub mod Matching
 pub mod Checking
 pub mod Inputs

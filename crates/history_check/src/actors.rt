@@ -5,7 +5,7 @@ ghost use Rattle.kernel_types.specs.Facts.{status_at};
 ghost use Rattle.kernel_types.specs.Kernel.{step_limit};
 ghost use Rattle.kernel_values.specs.declared.entry.ActorStatus.TheVariants as status;
 ghost use Rattle.kernel_values.specs.declared.scene.Turn.TheVariants as turn;
-ghost use Rattle.history_check.specs.Standing.{AreAtTheBeginning, Came, Fits, IsWithin, Renewed};
+ghost use Rattle.history_check.specs.Matching.{AreAtTheBeginning, Came, Matches, IsWithin, Renewed};
 
 use crate::steps::{step_of, step_once};
 use kernel_types::IpcKernel;
@@ -46,7 +46,7 @@ impl Actors {
         kernel: &mut K,
         turn: Turn,
     ) -> Result<Option<Entry>, NoMemory>
-        requires fit { Fits self.old (K.state kernel.old) }
+        requires fit { Matches self.old (K.state kernel.old) }
         requires within { IsWithin self.old turn }
         requires room { K.made kernel.old < step_limit }
         ensures { IfOk result (λ entry. Came turn self.old self.new (K.state kernel.old) (K.state kernel.new) (K.made kernel.old) (K.made kernel.new) entry) }
@@ -64,7 +64,7 @@ impl Actors {
         kernel: &mut K,
         actor: u32,
     ) -> Result<Option<Entry>, NoMemory>
-        requires fit { Fits self.old (K.state kernel.old) }
+        requires fit { Matches self.old (K.state kernel.old) }
         requires within { actor < length self.old.names }
         requires room { K.made kernel.old < step_limit }
         ensures { IfOk result (λ entry. Came (turn.Actor actor) self.old self.new (K.state kernel.old) (K.state kernel.new) (K.made kernel.old) (K.made kernel.new) entry) }
@@ -100,7 +100,7 @@ impl Actors {
         actor: u32,
         start: u32,
     ) -> Result<Option<Entry>, NoMemory>
-        requires fit { Fits self.old (K.state kernel.old) }
+        requires fit { Matches self.old (K.state kernel.old) }
         requires within { actor < length self.old.names }
         requires room { K.made kernel.old < step_limit }
         requires runs { status_at (K.state kernel.old) actor ≡ Some (status.Running start) }
@@ -129,7 +129,7 @@ impl Actors {
         actor: u32,
         start: u32,
     ) -> Result<Option<Entry>, NoMemory>
-        requires fit { Fits self.old (K.state kernel.old) }
+        requires fit { Matches self.old (K.state kernel.old) }
         requires within { actor < length self.old.names }
         requires room { K.made kernel.old < step_limit }
         requires waits { status_at (K.state kernel.old) actor ≡ Some (status.Waiting start) }

@@ -4,7 +4,7 @@ ghost use Rattle.std.specs.Prelude.{◌≡◌, ◌<◌, ◌≤◌, IfOk, map, op
 ghost use Rattle.kernel_types.specs.Kernel.{step_limit};
 ghost use Rattle.kernel_types.specs.Opening.{opening};
 ghost use Rattle.history_check.specs.Verdicts.{IsVerdict, line_count};
-ghost use Rattle.history_check.specs.Standing.{Fits};
+ghost use Rattle.history_check.specs.Matching.{Matches};
 ghost use Rattle.history_check.specs.Checking.{TookEntry, Ends, Checks};
 
 use crate::actors::Actors;
@@ -26,7 +26,7 @@ fn take_entry<'t, K: IpcKernel>(
     k: u64,
     text: &'t [u8],
 ) -> Result<Option<&'t [u8]>, NoMemory>
-    requires fit { Fits actors.old (K.state kernel.old) }
+    requires fit { Matches actors.old (K.state kernel.old) }
     requires room { K.made kernel.old < step_limit }
     ensures { IfOk result (λ rest. TookEntry k text.now actors.old actors.new (K.state kernel.old) (K.state kernel.new) (K.made kernel.old) (K.made kernel.new) (option_map (λ bytes. bytes.now) rest)) }
 {
@@ -76,7 +76,7 @@ fn check_entries<K: IpcKernel>(
     first: &[u8],
     text: &[u8],
 ) -> Result<Verdict, NoMemory>
-    requires fit { Fits actors.old (K.state kernel.old) }
+    requires fit { Matches actors.old (K.state kernel.old) }
     requires made { K.made kernel.old ≡ 0 }
     requires lines { line_count text.now < step_limit }
     ensures { IfOk result (λ verdict. Checks actors.old (K.state kernel.old) first.now text.now verdict) }

@@ -15,7 +15,7 @@ use Rattle.kernel_types.specs.Applications.{application_ended, started}
 use Rattle.kernel_types.specs.Ports.{admitted, new_port, server_end}
 use Rattle.kernel_laws.proofs.Publishing.{publish_tells}
 use Rattle.kernel_laws.proofs.Starts.{same_ended, same_idle, same_started}
-use Rattle.kernel_laws.proofs.Tells.{Tells, tells_added, tells_changed, tells_filtered, tells_mapped, tells_opened, tells_retired, tells_sent, Told, appended, longer, queue_if, Quiet, quiet_end, quiet_memory, quiet_port, quiet_set}
+use Rattle.kernel_laws.proofs.Tells.{Tells, tells_added, tells_changed, tells_filtered, tells_mapped, tells_opened, tells_retired, tells_sent, StoryFits, appended, longer, queue_if, Quiet, quiet_end, quiet_memory, quiet_port, quiet_set}
 use Rattle.std.specs.Option.{option_map}
 use Rattle.kernel_values.specs.declared.call.Call.{Call}
 use Rattle.kernel_values.specs.declared.entry.EndSeq.{EndSeq}
@@ -70,7 +70,7 @@ added_none story e =
     let retired : story.retired ++ [] ≡ story.retired = append-nil story.retired in
     rw (sent, opened, retired) refl
 
-told_same : (e : ℕ) (story : Story) (c d : CoreState) → (d.objects ≡ c.objects) × (d.next ≡ c.next) → Told e story c → Told e story d
+told_same : (e : ℕ) (story : Story) (c d : CoreState) → (d.objects ≡ c.objects) × (d.next ≡ c.next) → StoryFits e story c → StoryFits e story d
 told_same e story c d same t = subst (λ (n : ℕ). Tells e story d.objects n) (sym same.1) (subst (λ objects. Tells e story objects c.next) (sym same.0) t)
 
 abbrev moved_to : ℕ → Story → Move → Story
@@ -93,14 +93,14 @@ mark_sent (mark_reported events) end = refl
 mark_sent mark_error end = refl
 
 module _ (e : ℕ) where
-  one_changed : (story : Story) (c : CoreState) → Told e story c → (f : Body → Body) → Quiet f → (id : ℕ) → Told e story (with_objects (changed f c.objects id) c)
+  one_changed : (story : Story) (c : CoreState) → StoryFits e story c → (f : Body → Body) → Quiet f → (id : ℕ) → StoryFits e story (with_objects (changed f c.objects id) c)
   one_changed story c t f quiet id = tells_changed e story c.objects c.next t f quiet id
 
-  accepted_told : (story : Story) (c : CoreState) → Told e story c → (client : Option ℕ) → Told e story (accept_client client c)
+  accepted_told : (story : Story) (c : CoreState) → StoryFits e story c → (client : Option ℕ) → StoryFits e story (accept_client client c)
   accepted_told story c t None = t
   accepted_told story c t (Some client) = one_changed story c t (on_end (accepted_end true)) (quiet_end _ (λ x. refl) (λ x. refl)) client
 
-  small_told : (by : Option ℕ) (story : Story) (c : CoreState) → Told e story c → (change : SmallChange by c) → Told e (retold (moved_to e) story (moves by c change)) (after by c change)
+  small_told : (by : Option ℕ) (story : Story) (c : CoreState) → StoryFits e story c → (change : SmallChange by c) → StoryFits e (retold (moved_to e) story (moves by c change)) (after by c change)
   small_told by story c t (cookie_changed app of_app handle cookie entry held) = t
   small_told by story c t (entry_removed app of_app handle entry held) = t
   small_told by story c t (entry_installed app of_app object nameable room) = t
@@ -111,8 +111,8 @@ module _ (e : ℕ) where
   small_told by story c t (pair_made client path id port way lets) =
       let one : Body = body.End (new_end (Some (c.next + 1)) end_state.Connecting None (Some client) port.bufs port.size) in
       let other : Body = server_end c.next port.bufs port.size in
-      let first : Told e story (added one c) = tells_added e story c.objects c.next t one (refl, refl) in
-      let pair : Told e story (added other (added one c)) = tells_added e story (added one c).objects (added one c).next first other (refl, refl) in
+      let first : StoryFits e story (added one c) = tells_added e story c.objects c.next t one (refl, refl) in
+      let pair : StoryFits e story (added other (added one c)) = tells_added e story (added one c).objects (added one c).next first other (refl, refl) in
       one_changed story (added other (added one c)) pair (on_port _) (quiet_port _) id
   small_told by story c t (port_made path bufs size flags lawful free) = publish_tells e story c t (new_port path bufs size flags) (admitted (new_port path bufs size flags) c.objects)
   small_told by story c t (member_removed id label set there known) = one_changed story c t (on_set (without_label label)) (quiet_set _) id
@@ -129,8 +129,8 @@ module _ (e : ℕ) where
       (one_changed story less (one_changed story c t (on_port (λ p. record p { pending = rest })) (quiet_port _) id) (on_end (accepted_end false)) (quiet_end _ (λ x. refl) (λ x. refl)) server)
       (peer_of (end_of c.objects server))
 
-  thread_told : (app thread : ℕ) (asked : Call) (said : Answer) (story : Story) (c : CoreState) → Told e story c → (change : ThreadChange app thread asked said c)
-      → Told e story (after_thread app thread asked said c change)
+  thread_told : (app thread : ℕ) (asked : Call) (said : Answer) (story : Story) (c : CoreState) → StoryFits e story c → (change : ThreadChange app thread asked said c)
+      → StoryFits e story (after_thread app thread asked said c change)
   thread_told app thread asked said story c t (set_made is made room) = tells_added e story c.objects c.next t (body.Set (record { members = [] })) tt
   thread_told app thread asked said story c t (member_added held handle mask cookie id set entry is here may) =
       one_changed story c t (on_set (with_member (new_member handle entry.object mask cookie))) (quiet_set _) id
@@ -138,12 +138,12 @@ module _ (e : ℕ) where
   thread_told app thread asked said story c t (app_over ends) = told_same e story c (application_ended app c) (same_ended app c) t
   thread_told app thread asked said story c t _ = t
 
-  swept_told : (story : Story) (c : CoreState) → Told e story c → Told e story (sweep c)
+  swept_told : (story : Story) (c : CoreState) → StoryFits e story c → StoryFits e story (sweep c)
   unfolding sweep pruned kept
   swept_told story c t =
       let prune : Port → Port = pruned_port (reached c) c.objects in
       let less : CoreState = pruned (reached c) c in
-      let cut : Told e story less = tells_mapped e story c.objects c.next t (on_body (on_port prune)) (λ object. refl) (λ object. quiet_port prune object.body) in
+      let cut : StoryFits e story less = tells_mapped e story c.objects c.next t (on_body (on_port prune)) (λ object. refl) (λ object. quiet_port prune object.body) in
       let there : List Object = filter (λ object. is_in (reached less) object.id) less.objects in
       tells_mapped e story there c.next (tells_filtered e story less.objects c.next cut (is_in (reached less))) (on_body (on_end (cut_end (reached less)))) (λ object. refl)
       (λ object. quiet_end (cut_end (reached less)) (λ x. refl) (λ x. refl) object.body)
@@ -151,7 +151,7 @@ module _ (e : ℕ) where
   -- every change keeps that the story fits the end's queue
   telling : TracedInvariant Story
   telling = record {
-    holds = Told e;
+    holds = StoryFits e;
     moved = moved_to e;
     small = small_told;
     call = thread_told;
@@ -175,26 +175,26 @@ module _ (e : ℕ) where
   retold_is story (Some x) (Some y) None = refl
   retold_is story (Some x) (Some y) (Some z) = refl
 
-  steps_tell : (s : State) (ev : Event) (r : Stepped) (story : Story) → step s ev ≡ Some r → Told e story s.core → Told e (longer story e r.seqs) r.state.core
+  steps_tell : (s : State) (ev : Event) (r : Stepped) (story : Story) → step s ev ≡ Some r → StoryFits e story s.core → StoryFits e (longer story e r.seqs) r.state.core
   unfolding telling
   steps_tell s ev r story is t =
-      subst (λ (x : Story). Told e x r.state.core) (retold_is story r.seqs.sent r.seqs.opened r.seqs.retired) (step_told Story telling story s ev r is t)
+      subst (λ (x : Story). StoryFits e x r.state.core) (retold_is story r.seqs.sent r.seqs.opened r.seqs.retired) (step_told Story telling story s ev r is t)
 
   -- the step that an entry tells of
-  entry_tells : (s : State) (story : Story) → Told e story s.core → (entry : Entry) (o : Option Stepped) → step s entry.event ≡ o → option_map (entry_of entry.event) o ≡ Some entry
-      → Told e (longer story e entry.seqs) (state_or s o).core
+  entry_tells : (s : State) (story : Story) → StoryFits e story s.core → (entry : Entry) (o : Option Stepped) → step s entry.event ≡ o → option_map (entry_of entry.event) o ≡ Some entry
+      → StoryFits e (longer story e entry.seqs) (state_or s o).core
   entry_tells s story t entry None at is = absurd (cc)
   entry_tells s story t entry (Some stepped) at is =
       let same : entry_of entry.event stepped ≡ entry = cc in
-      subst (λ (x : Entry). Told e (longer story e x.seqs) stepped.state.core) same (steps_tell s entry.event stepped story at t)
+      subst (λ (x : Entry). StoryFits e (longer story e x.seqs) stepped.state.core) same (steps_tell s entry.event stepped story at t)
 
-  along : (entries : List Entry) (story : Story) (s : State) → Told e story s.core → Legal s entries → IsInOrder (added_story story (story_of entries e))
+  along : (entries : List Entry) (story : Story) (s : State) → StoryFits e story s.core → Legal s entries → IsInOrder (added_story story (story_of entries e))
   along [] story s t legal = subst IsInOrder (sym (added_none story e)) (in_order story (queue_if (found s.core.objects e)) t.tale)
   along (entry ∷ entries) story s t legal =
       subst IsInOrder (longer_more story e entry entries)
       (along entries (longer story e entry.seqs) (next_state s entry.event) (entry_tells s story t entry (step s entry.event) refl legal.0) legal.1)
 
-opening_tells : (scene : SceneValue) (e : ℕ) → Told e untold (opening scene).core
+opening_tells : (scene : SceneValue) (e : ℕ) → StoryFits e untold (opening scene).core
 unfolding opening
 opening_tells scene e = record { tale = told_begun None tt; unborn = λ above. (refl, refl) }
 

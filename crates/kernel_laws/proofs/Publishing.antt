@@ -9,7 +9,7 @@ use Rattle.kernel_values.specs.declared.state.CoreState.{CoreState}
 use Rattle.kernel_types.specs.Stories.{Story}
 use Rattle.kernel_types.specs.Ports.{admits_client, connecting_end, decided, decided_end, denied_end, new_server, publish_to, server_of, waits_for}
 use Rattle.kernel_laws.proofs.Found.{found}
-use Rattle.kernel_laws.proofs.Tells.{Tells, Told, IsNew, quiet_end, tells_mapped, tells_appended}
+use Rattle.kernel_laws.proofs.Tells.{Tells, StoryFits, IsNew, quiet_end, tells_mapped, tells_appended}
 
 decided_messages : (port : Port) (first : ℕ) (clients : List ℕ) (id : ℕ) (end : ChannelEnd) → (decided_end port first clients id end).messages ≡ end.messages
 decided_messages port first clients id end =
@@ -54,7 +54,7 @@ pub new_from : (low first high e : ℕ) (o : Option Object) → low ≤ first �
 new_from low first high e None le new = tt
 new_from low first high e (Some object) le new = (omega (arith, new.0), new.1, new.2)
 
-pub publish_tells : (e : ℕ) (story : Story) (c : CoreState) → Told e story c → (port : Port) (clients : List ℕ) → Told e story (publish_to clients port c)
+pub publish_tells : (e : ℕ) (story : Story) (c : CoreState) → StoryFits e story c → (port : Port) (clients : List ℕ) → StoryFits e story (publish_to clients port c)
 publish_tells e story c t port clients =
     let first : ℕ = c.next + 1 in
     let more : ℕ = c.next + 1 + length clients in

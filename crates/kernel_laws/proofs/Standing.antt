@@ -28,7 +28,7 @@ use Rattle.kernel_types.specs.CoreStep.{core_begin, core_resume, core_idle, canc
 use Rattle.kernel_types.specs.Clients.{Acted, client_cancelled, client_changed}
 use Rattle.kernel_types.specs.Device.{DeviceStep, device_step}
 use Rattle.kernel_types.specs.Limits.{Room, full_room, room_of_call}
-use Rattle.kernel_types.specs.Step.{Stepped, beside_core, client_begin, client_number, client_resume, device_stepped, idle, idle_lawful, in_world, is_built_event, is_thread, full_step, next_deadline, step, world_idle}
+use Rattle.kernel_types.specs.Step.{Stepped, beside_core, client_begin, client_number, client_resume, device_stepped, idle, idle_lawful, in_world, is_thread, step, next_deadline, world_idle}
 use Rattle.step_laws.proofs.Bridged.{DeviceKeepsIf, any_change, device_keeps}
 use Rattle.kernel_laws.proofs.Mapped.{map_at_same, mapped_same}
 use Rattle.kernel_laws.proofs.Worlds.{ActsIf, begin_acts, nobody, resume_acts}
@@ -158,24 +158,20 @@ unfolding world_idle
 idle_stay (Some deadline) w = refl
 idle_stay None w = mapped_same nobody (client_changed client_cancelled) (λ x. refl) w.clients
 
-full_step_clients : (s : State) (ev : Event) → ClientsStay s (full_step s ev)
-unfolding full_step
-full_step_clients s (event.Begin actor start asked) =
+pub step_clients : (s : State) (ev : Event) → ClientsStay s (step s ev)
+unfolding step
+step_clients s (event.Begin actor start asked) =
     let thread : Option Outcome = core_begin s.core actor.0 start asked in
     let client : Option Acted = client_begin s (client_number s actor.0) start asked in
     elim (is_thread s actor.0) as (λ b. ClientsStay s (cond b (option_map (in_world s.world) thread) (option_map (beside_core s.core) client)))
     [ true ↦ in_world_stay s thread | false ↦ beside_stay s (room_of_call asked) client (begin_acts s (client_number s actor.0) start asked) ]
-full_step_clients s (event.Resume actor start) =
+step_clients s (event.Resume actor start) =
     let thread : Option Outcome = core_resume s.core actor.0 start in
     let client : Option Acted = client_resume s (client_number s actor.0) start in
     elim (is_thread s actor.0) as (λ b. ClientsStay s (cond b (option_map (in_world s.world) thread) (option_map (beside_core s.core) client)))
     [ true ↦ in_world_stay s thread | false ↦ beside_stay s full_room client (resume_acts s (client_number s actor.0) start) ]
-full_step_clients s event.Device = device_stay s (device_step s) (device_keeps s (any_change s.core))
-full_step_clients s event.Idle = elim (idle_lawful s) as (λ b. ClientsStay s (cond b (Some (idle s)) None)) [ true ↦ idle_stay (next_deadline s) s.world | false ↦ tt ]
-
-pub step_clients : (s : State) (ev : Event) → ClientsStay s (step s ev)
-unfolding step
-step_clients s ev = elim (is_built_event ev) as (λ b. ClientsStay s (cond b (full_step s ev) None)) [ true ↦ full_step_clients s ev | false ↦ tt ]
+step_clients s event.Device = device_stay s (device_step s) (device_keeps s (any_change s.core))
+step_clients s event.Idle = elim (idle_lawful s) as (λ b. ClientsStay s (cond b (Some (idle s)) None)) [ true ↦ idle_stay (next_deadline s) s.world | false ↦ tt ]
 
 -- a step leaves these manifests and threads
 abbrev pub StepStands : State → Option Stepped → Type 0

@@ -39,8 +39,8 @@ pub record Tells (e : ℕ) (story : Story) (objects : List Object) (next : ℕ) 
   pub tale : Tale story (queue_if (found objects e))
   pub unborn : next ≤ e → (found objects e ≡ None) × (story ≡ untold)
 
-abbrev pub Told : ℕ → Story → CoreState → Type 0
-Told e story c = Tells e story c.objects c.next
+abbrev pub StoryFits : ℕ → Story → CoreState → Type 0
+StoryFits e story c = Tells e story c.objects c.next
 
 -- the story with the numbers of one more entry
 

@@ -44,10 +44,10 @@ all_map_at P f keeps (x ∷ xs) (suc at) all =
 
 -- Changes of objects.
 
-abbrev pub Keeps : (Body → Body) → Type 0
-Keeps f = (b : Body) → IsBodyWithin b → IsBodyWithin (f b)
+abbrev pub KeepsWithin : (Body → Body) → Type 0
+KeepsWithin f = (b : Body) → IsBodyWithin b → IsBodyWithin (f b)
 
-pub within_changed : (f : Body → Body) → Keeps f → (objects : List Object) → Within objects → (id : ℕ) → Within (changed f objects id)
+pub within_changed : (f : Body → Body) → KeepsWithin f → (objects : List Object) → Within objects → (id : ℕ) → Within (changed f objects id)
 within_changed f keeps [] w id = tt
 within_changed f keeps (object ∷ objects) w id =
     subst (λ os. Within os) (sym (changed_cons f object objects id))
@@ -82,19 +82,19 @@ pub within_appended : (objects more : List Object) → Within objects → Within
 within_appended [] more w v = v
 within_appended (object ∷ objects) more w v = (w.0, within_appended objects more w.1 v)
 
-pub keeps_set : (change : HandleSet → HandleSet) → ((set : HandleSet) → length set.members ≤ 64 → length (change set).members ≤ 64) → Keeps (on_set change)
+pub keeps_set : (change : HandleSet → HandleSet) → ((set : HandleSet) → length set.members ≤ 64 → length (change set).members ≤ 64) → KeepsWithin (on_set change)
 keeps_set change keeps (body.Set set) w = keeps set w
 keeps_set change keeps (body.Port port) w = w
 keeps_set change keeps (body.End end) w = w
 keeps_set change keeps (body.Memory memory) w = w
 
-pub keeps_port : (change : Port → Port) → ((port : Port) → IsPortWithin port → IsPortWithin (change port)) → Keeps (on_port change)
+pub keeps_port : (change : Port → Port) → ((port : Port) → IsPortWithin port → IsPortWithin (change port)) → KeepsWithin (on_port change)
 keeps_port change keeps (body.Set set) w = w
 keeps_port change keeps (body.Port port) w = keeps port w
 keeps_port change keeps (body.End end) w = w
 keeps_port change keeps (body.Memory memory) w = w
 
-pub keeps_end : (change : ChannelEnd → ChannelEnd) → ((end : ChannelEnd) → IsEndWithin end → IsEndWithin (change end)) → Keeps (on_end change)
+pub keeps_end : (change : ChannelEnd → ChannelEnd) → ((end : ChannelEnd) → IsEndWithin end → IsEndWithin (change end)) → KeepsWithin (on_end change)
 keeps_end change keeps (body.Set set) w = w
 keeps_end change keeps (body.Port port) w = w
 keeps_end change keeps (body.End end) w = keeps end w

@@ -18,7 +18,7 @@ use Rattle.kernel_types.specs.Device.{DeviceStep, device_step}
 use Rattle.kernel_types.specs.Facts.{is_client}
 use Rattle.kernel_types.specs.Limits.{FitsIn, Room, full_room, no_room, path_room, room_of, room_of_call, IsSmallAnswer}
 use Rattle.kernel_types.specs.Outcome.{Outcome}
-use Rattle.kernel_types.specs.Step.{Stepped, beside_core, client_begin, client_number, client_resume, client_resume_of, client_status, device_stepped, full_step, idle, idle_lawful, idle_until, in_world, is_built_event, is_thread, next_deadline, statuses, step, world_idle}
+use Rattle.kernel_types.specs.Step.{Stepped, beside_core, client_begin, client_number, client_resume, client_resume_of, client_status, device_stepped, step, idle, idle_lawful, idle_until, in_world, is_thread, next_deadline, statuses, world_idle}
 use Rattle.step_laws.proofs.Bridged.{DeviceKeepsIf, any_change, device_keeps}
 use Rattle.kernel_laws.proofs.Within.{WithinCore}
 use Rattle.kernel_laws.proofs.Worlds.{ActsIf, Inboxes, InboxesOf, begin_acts, resume_of_acts}
@@ -108,9 +108,9 @@ idle_fine s w deadline = (
   idle_fits deadline,
 )
 
-full_step_fine : (s : State) → WithinState s → (ev : Event) → StepFine (room_of s ev) (full_step s ev)
-unfolding full_step
-full_step_fine s w (event.Begin actor start asked) =
+pub step_fine : (s : State) → WithinState s → (ev : Event) → StepFine (room_of s ev) (step s ev)
+unfolding step
+step_fine s w (event.Begin actor start asked) =
     let room : Room = room_of_call asked in
     let thread : Option Outcome = core_begin s.core actor.0 start asked in
     let client : Option Acted = client_begin s (client_number s actor.0) start asked in
@@ -118,7 +118,7 @@ full_step_fine s w (event.Begin actor start asked) =
       | true ↦ in_world_fine room s.world w.inboxes thread (begin_fits s.core w.objects actor.0 start asked)
       | false ↦ beside_fine room s w client (begin_acts s (client_number s actor.0) start asked)
     ]
-full_step_fine s w (event.Resume actor start) =
+step_fine s w (event.Resume actor start) =
     let room : Room = cond (is_client s actor.0) full_room no_room in
     let thread : Option Stepped = option_map (in_world s.world) (core_resume s.core actor.0 start) in
     let client : Option Stepped = option_map (beside_core s.core) (client_resume s (client_number s actor.0) start) in
@@ -128,9 +128,5 @@ full_step_fine s w (event.Resume actor start) =
       | false ↦ (λ other. client_resume_fine s w actor.0 start other)
     ] in
     go (is_thread s actor.0) refl
-full_step_fine s w event.Device = device_fine s w (device_step s) (device_keeps s (any_change s.core))
-full_step_fine s w event.Idle = elim (idle_lawful s) as (λ b. StepFine no_room (cond b (Some (idle s)) None)) [ true ↦ idle_fine s w (next_deadline s) | false ↦ tt ]
-
-pub step_fine : (s : State) → WithinState s → (ev : Event) → StepFine (room_of s ev) (step s ev)
-unfolding step
-step_fine s w ev = elim (is_built_event ev) as (λ b. StepFine (room_of s ev) (cond b (full_step s ev) None)) [ true ↦ full_step_fine s w ev | false ↦ tt ]
+step_fine s w event.Device = device_fine s w (device_step s) (device_keeps s (any_change s.core))
+step_fine s w event.Idle = elim (idle_lawful s) as (λ b. StepFine no_room (cond b (Some (idle s)) None)) [ true ↦ idle_fine s w (next_deadline s) | false ↦ tt ]

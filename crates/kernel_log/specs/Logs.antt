@@ -46,7 +46,7 @@ pub record Wrote (event : Event) (log longer : Log) (place : ℕ) : Type 0 where
   pub room_is : log.journal.room ≤ longer.journal.room + 1
 
 -- the event comes back, and nothing was written
-pub record Kept (event : Event) (log same : Log) (refused : StepRefused) : Type 0 where
+pub record StaysSame (event : Event) (log same : Log) (refused : StepRefused) : Type 0 where
   pub event_is : refused.event ≡ event
   pub origin_is : same.origin ≡ log.origin
   pub entries_are : same.journal.entries ≡ log.journal.entries

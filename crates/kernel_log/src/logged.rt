@@ -4,7 +4,7 @@ ghost use Rattle.std.specs.Prelude.{◌≡◌, ◌≤◌, ◌+◌, [], length, s
 ghost use Rattle.std.specs.Option.{option_map};
 ghost use Rattle.kernel_types.specs.History.{Legal};
 ghost use Rattle.kernel_types.specs.Limits.{resumes_client, room_of};
-ghost use Rattle.kernel_log.specs.Logs.{facts_along, state_of, made_by, Wrote, Kept};
+ghost use Rattle.kernel_log.specs.Logs.{facts_along, state_of, made_by, Wrote, StaysSame};
 ghost use Rattle.kernel_log.specs.Spares.{Holds};
 
 use crate::journal::Journal;
@@ -135,7 +135,7 @@ impl<K: IpcKernel + Drop> Logged<K> {
     pub fn step(&mut self, event: Event) -> Result<Receipt, StepRefused>
         ensures ok { IfOk result (λ receipt. Wrote event self.old self.new receipt.place) }
         ensures answer { IfOk result (λ receipt. option_map (λ entry. entry.answer) (slice_get self.new.journal.entries receipt.place) ≡ Some receipt.answer) }
-        ensures err { IfErr result (λ refused. Kept event self.old self.new refused) }
+        ensures err { IfErr result (λ refused. StaysSame event self.old self.new refused) }
     {
         let Ok(spare) = self.spare_for(&event) else {
             return Err(StepRefused {

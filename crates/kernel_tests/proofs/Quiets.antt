@@ -4,10 +4,9 @@ use Rattle.std.specs.Option.{option_map}
 use Rattle.kernel_values.specs.declared.call.Call.{Call}
 use Rattle.kernel_values.specs.declared.entry.Event.{Event}
 use Rattle.kernel_values.specs.declared.entry.Event.TheVariants as event
-use Rattle.kernel_types.specs.Built.{is_built}
 use Rattle.kernel_types.specs.CoreStep.{core_begin, core_resume}
 use Rattle.kernel_types.specs.Device.{device_step}
-use Rattle.kernel_types.specs.Step.{in_world, beside_core, is_thread, client_number, begin, step, full_step, client_begin, client_resume, client_movable, movable, statuses, idle_lawful, device_has_work}
+use Rattle.kernel_types.specs.Step.{in_world, beside_core, is_thread, client_number, begin, step, client_begin, client_resume, client_movable, movable, statuses, idle_lawful, device_has_work}
 use Rattle.kernel_types.specs.Kernel.{status_for}
 use Rattle.kernel_types.specs.Waits.{thread_movable}
 use Rattle.kernel_tests.specs.Quiet.{quiet}
@@ -27,11 +26,8 @@ no_resume true actor start = refl
 no_resume false actor start = refl
 
 pub nothing_moves : (e : Event) → step quiet e ≡ None
-unfolding step full_step device_step idle_lawful statuses device_has_work
-nothing_moves (event.Begin actor start call) = elim (is_built call) as (λ b. cond b (begin quiet actor.0 start call) None ≡ None) [
-  | true ↦ no_begin (is_thread quiet actor.0) actor.0 start call
-  | false ↦ refl
-]
+unfolding step device_step idle_lawful statuses device_has_work
+nothing_moves (event.Begin actor start call) = no_begin (is_thread quiet actor.0) actor.0 start call
 nothing_moves (event.Resume actor start) = no_resume (is_thread quiet actor.0) actor.0 start
 nothing_moves event.Device = refl
 nothing_moves event.Idle = refl

@@ -13,8 +13,12 @@ use Rattle.kernel_types.specs.Objects.{map_at}
 use Rattle.kernel_types.specs.Outcome.{Outcome, gives}
 
 -- an application starts at most 4 times
+
+abbrev pub start_limit : ℕ
+start_limit = 4
+
 abbrev pub has_start_left : Application → Bool
-has_start_left app = nat_lt app.starts 4
+has_start_left app = nat_lt app.starts start_limit
 
 -- one more start: an empty table, and no number that a `waitany` reported
 abbrev pub started_app : Application → Application

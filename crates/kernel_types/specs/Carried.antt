@@ -11,7 +11,8 @@ use Rattle.kernel_values.specs.declared.scene.Client.{Client}
 use Rattle.kernel_values.specs.SceneLaw.{SceneValue, IsLawfulScene, scripts_of}
 use Rattle.kernel_types.specs.Whole.{FollowsScripts}
 use Rattle.kernel_values.specs.declared.state.State.{State}
-use Rattle.kernel_types.specs.Clients.{Acted, drains}
+use Rattle.kernel_types.specs.Clients.{Acted}
+use Rattle.kernel_values.specs.CallKinds.{drains, is_honest_call}
 use Rattle.kernel_types.specs.Drains.{drained_frames}
 use Rattle.kernel_types.specs.Device.{DeviceStep, device_step}
 use Rattle.kernel_types.specs.Step.{is_thread, client_number, client_begin, client_resume}
@@ -87,11 +88,6 @@ abbrev pub read_back : State → List Entry → List (List ℕ)
 read_back s entries = frames_over drained_in s entries
 
 -- a client that writes memory and rings through the driver alone
-
-abbrev pub is_honest_call : Call → Bool
-is_honest_call (call.NsPoke addr bytes) = false
-is_honest_call (call.NsKick queue head) = false
-is_honest_call other = true
 
 abbrev pub is_honest : Client → Bool
 is_honest client = list_all (λ command. is_honest_call command.call) client.script

@@ -238,13 +238,6 @@ ns_kick_call queue head w =
 -- A call of a client that runs: the first four drain both queues before they act; a call of a thread is none, but `finish`
 -- is one.
 
-abbrev pub drains : Call → Bool
-drains (call.NsConnect path) = true
-drains (call.NsSend conn bytes) = true
-drains (call.NsRecv conn timeout) = true
-drains (call.NsClose conn) = true
-drains other = false
-
 unfoldable pub ns_act : ℕ → ℕ → Call → World → Option Acted
 ns_act clock client (call.NsConnect path) w = Some (ns_connect_call client path (drained w))
 ns_act clock client (call.NsSend conn bytes) w = Some (ns_send_call client conn bytes (drained w))

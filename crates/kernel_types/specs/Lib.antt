@@ -1,7 +1,6 @@
 pub mod Applications
 pub mod Bridge
 pub mod Bridging
-pub mod Built
 pub mod Carried
 pub mod Clients
 pub mod Connects

@@ -20,22 +20,25 @@ use Rattle.kernel_values.specs.declared.state.State.{State}
 use Rattle.kernel_values.specs.declared.world.Connection.{Connection}
 use Rattle.kernel_types.specs.Facts.{is_client}
 use Rattle.kernel_types.specs.GuestMemory.{buffer_size}
-use Rattle.kernel_types.specs.Ports.{is_waiting}
+use Rattle.kernel_types.specs.Memories.{memory_limit}
+use Rattle.kernel_types.specs.Messages.{part_limit}
+use Rattle.kernel_types.specs.Ports.{is_waiting, message_limit, slot_limit}
+use Rattle.kernel_types.specs.Sets.{member_limit}
 
 -- a message has at most 4,096 bytes and 8 parts
 pub record IsMessageWithin (message : Message) : Type 0 where
-  pub bytes : length message.bytes ≤ 4096
-  pub parts : length message.parts ≤ 8
+  pub bytes : length message.bytes ≤ message_limit
+  pub parts : length message.parts ≤ part_limit
 
 -- a port has at most 32 buffers of at most 4,096 bytes
 pub record IsPortWithin (port : Port) : Type 0 where
-  pub size : port.size ≤ 4096
-  pub bufs : port.bufs ≤ 32
+  pub size : port.size ≤ message_limit
+  pub bufs : port.bufs ≤ slot_limit
 
 -- an end has at most 32 slots of at most 4,096 bytes, and none where no port is there yet; it holds at most as many messages as it has slots
 pub record IsEndWithin (end : ChannelEnd) : Type 0 where
-  pub size : end.size ≤ 4096
-  pub slots : end.slots ≤ 32
+  pub size : end.size ≤ message_limit
+  pub slots : end.slots ≤ slot_limit
   pub waiting : is_waiting end.state ≡ true → end.slots ≡ 0
   pub few : length end.messages ≤ end.slots
   pub messages : All IsMessageWithin end.messages
@@ -44,8 +47,8 @@ pub record IsEndWithin (end : ChannelEnd) : Type 0 where
 abbrev pub IsBodyWithin : Body → Type 0
 IsBodyWithin (body.Port port) = IsPortWithin port
 IsBodyWithin (body.End end) = IsEndWithin end
-IsBodyWithin (body.Set set) = length set.members ≤ 64
-IsBodyWithin (body.Memory memory) = length memory.bytes ≤ 65536
+IsBodyWithin (body.Set set) = length set.members ≤ member_limit
+IsBodyWithin (body.Memory memory) = length memory.bytes ≤ memory_limit
 
 -- what came for a connection of the normal world came in one buffer each
 abbrev pub IsInboxWithin : Connection → Type 0
@@ -84,8 +87,8 @@ handles_of (answer.Gives reply) = handles_of_reply reply
 handles_of _ = 0
 
 pub record IsSmallAnswer (answer : Answer) : Type 0 where
-  pub bytes : bytes_of answer ≤ 65536
-  pub handles : handles_of answer ≤ 8
+  pub bytes : bytes_of answer ≤ memory_limit
+  pub handles : handles_of answer ≤ part_limit
 
 -- How much an answer lists: the bytes and the handles that a copy of it needs room for.
 
@@ -105,7 +108,7 @@ abbrev pub no_room : Room
 no_room = record { bytes = 0; handles = 0 }
 
 abbrev pub full_room : Room
-full_room = record { bytes = 65536; handles = 8 }
+full_room = record { bytes = memory_limit; handles = part_limit }
 
 -- a path
 abbrev pub path_room : Room

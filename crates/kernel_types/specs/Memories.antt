@@ -12,8 +12,12 @@ use Rattle.kernel_types.specs.Tables.{table_of, entry_at, is_full, free_handle, 
 use Rattle.kernel_types.specs.Outcome.{Outcome, gives, refuses}
 
 -- a memory reference has 1 to 65,536 bytes
+
+abbrev pub memory_limit : ℕ
+memory_limit = 65536
+
 abbrev pub is_lawful_size : ℕ → Bool
-is_lawful_size size = nat_le 1 size && nat_le size 65536
+is_lawful_size size = nat_le 1 size && nat_le size memory_limit
 
 -- new memory is zero
 unfoldable pub new_memory : ℕ → MemFlags → MemoryRef

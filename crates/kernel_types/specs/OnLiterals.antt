@@ -17,7 +17,7 @@ use Rattle.kernel_types.specs.Reports.{report_of}
 use Rattle.kernel_types.specs.Scripts.{empty_registers, call_of, registers_after, script_begin, next_call, answered, calls_of}
 use Rattle.kernel_types.specs.Sets.{set_create, is_or_contains, chain_through, set_add, set_del, set_mod}
 use Rattle.kernel_types.specs.CoreStep.{act, core_begin, core_resume, least_deadline, core_idle}
-use Rattle.kernel_types.specs.Step.{statuses, client_begin, client_resume, device_has_work, client_movable, movable, idle_lawful, next_deadline, world_idle, full_step, step}
+use Rattle.kernel_types.specs.Step.{statuses, client_begin, client_resume, device_has_work, client_movable, movable, idle_lawful, next_deadline, world_idle, step}
 use Rattle.kernel_types.specs.Stories.{story_of}
 use Rattle.kernel_types.specs.Sweep.{pruned, kept, sweep}
 use Rattle.kernel_types.specs.Tables.{is_full, has_room, free_handle}
@@ -40,7 +40,7 @@ use Rattle.kernel_types.specs.GuestMemory.{memory_size, read_at, given, with_fra
 use Rattle.kernel_types.specs.Sending.{frame}
 
 unfoldable pub kernel_on_literals : ⊤
-unfolding started application_ended finish exit connect connect_decision accept chain_limit events_of is_at_end set_cookie close dup step_limit new_memory mem_create mem_read mem_write send free_id get read put naming opening admitted port_create reached_by report_of empty_registers call_of registers_after script_begin next_call answered calls_of set_create is_or_contains chain_through set_add set_del set_mod act core_begin core_resume statuses client_begin client_resume device_step device_has_work client_movable movable idle_lawful least_deadline core_idle next_deadline world_idle full_step step story_of pruned kept sweep is_full has_room free_handle event_of run_by replay_of next_turn history_limit serial_turns wait wait_any end_of_wait thread_movable calls_in answers_in
+unfolding started application_ended finish exit connect connect_decision accept chain_limit events_of is_at_end set_cookie close dup step_limit new_memory mem_create mem_read mem_write send free_id get read put naming opening admitted port_create reached_by report_of empty_registers call_of registers_after script_begin next_call answered calls_of set_create is_or_contains chain_through set_add set_del set_mod act core_begin core_resume statuses client_begin client_resume device_step device_has_work client_movable movable idle_lawful least_deadline core_idle next_deadline world_idle step story_of pruned kept sweep is_full has_room free_handle event_of run_by replay_of next_turn history_limit serial_turns wait wait_any end_of_wait thread_movable calls_in answers_in
 kernel_on_literals = tt
 
 -- The words of frames, rings and the normal world's driver, beside those above, but for the memory that a scene begins with,

@@ -21,8 +21,15 @@ use Rattle.kernel_types.specs.Tables.{table_of, is_full, free_handle, install}
 use Rattle.kernel_types.specs.Outcome.{Outcome, gives, refuses}
 
 -- a port has 1 to 32 buffers of 1 to 4,096 bytes
+
+abbrev pub slot_limit : ℕ
+slot_limit = 32
+
+abbrev pub message_limit : ℕ
+message_limit = 4096
+
 abbrev pub is_lawful_port : List ℕ → ℕ → ℕ → Bool
-is_lawful_port path bufs size = is_path path && (nat_le 1 bufs && nat_le bufs 32) && (nat_le 1 size && nat_le size 4096)
+is_lawful_port path bufs size = is_path path && (nat_le 1 bufs && nat_le bufs slot_limit) && (nat_le 1 size && nat_le size message_limit)
 
 -- the bit of a port's flags that lets this kind of client in: TA for an application, NS for the normal world
 abbrev pub admitting_bit : Connector → ℕ

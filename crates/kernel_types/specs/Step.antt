@@ -17,7 +17,6 @@ use Rattle.kernel_values.specs.declared.world.ClientActivity.{ClientActivity}
 use Rattle.kernel_values.specs.declared.world.ClientActivity.TheVariants as activity
 use Rattle.kernel_values.specs.declared.world.ClientState.{ClientState}
 use Rattle.kernel_values.specs.declared.world.World.{World}
-use Rattle.kernel_types.specs.Built.{is_built}
 use Rattle.kernel_types.specs.Clients.{Acted, ns_act, end_of_ns_wait, client_may_move, client_changed, with_client, client_running, client_cancelled}
 use Rattle.kernel_types.specs.CoreStep.{core_begin, core_resume, status_of, sooner, least_deadline, core_idle, idle_answer}
 use Rattle.kernel_types.specs.Device.{DeviceStep, device_step}
@@ -160,16 +159,8 @@ resume s actor start =
     else option_map (beside_core s.core) (client_resume s (client_number s actor) start))
 
 -- the step of an event, or nothing where the event is not lawful
-unfoldable pub full_step : State → Event → Option Stepped
-full_step s (event.Begin actor start call) = begin s actor.0 start call
-full_step s (event.Resume actor start) = resume s actor.0 start
-full_step s event.Device = option_map device_stepped (device_step s)
-full_step s event.Idle = (if idle_lawful s then Some (idle s) else None)
-
--- a call that no kernel has a body for yet is not lawful
-abbrev pub is_built_event : Event → Bool
-is_built_event (event.Begin actor start call) = is_built call
-is_built_event other = true
-
 unfoldable pub step : State → Event → Option Stepped
-step s e = (if is_built_event e then full_step s e else None)
+step s (event.Begin actor start call) = begin s actor.0 start call
+step s (event.Resume actor start) = resume s actor.0 start
+step s event.Device = option_map device_stepped (device_step s)
+step s event.Idle = (if idle_lawful s then Some (idle s) else None)

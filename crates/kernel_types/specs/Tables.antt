@@ -14,15 +14,19 @@ abbrev pub is_free : List TableEntry → ℕ → Bool
 is_free table handle = not (list_any (λ entry. entry.handle == handle) table)
 
 -- a table has 64 numbers, from 0 to 63
+
+abbrev pub handle_limit : ℕ
+handle_limit = 64
+
 unfoldable pub is_full : List TableEntry → Bool
-is_full table = nat_le 64 (length table)
+is_full table = nat_le handle_limit (length table)
 
 unfoldable pub has_room : ℕ → List TableEntry → Bool
-has_room count table = nat_le (length table + count) 64
+has_room count table = nat_le (length table + count) handle_limit
 
 -- the least number that no entry has
 unfoldable pub free_handle : List TableEntry → ℕ
-free_handle table = unwrap_or (find (is_free table) (range_with_len 0 64)) 0
+free_handle table = unwrap_or (find (is_free table) (range_with_len 0 handle_limit)) 0
 
 -- the table with one more entry, before the first one of a greater number
 abbrev pub with_entry : List TableEntry → TableEntry → List TableEntry

@@ -1,5 +1,5 @@
 -- What a line of a script may hold.
-use Rattle.std.specs.Prelude.{ℕ, Bool, true, false, ◌+◌, ◌&&◌, length, nat_lt}
+use Rattle.std.specs.Prelude.{ℕ, Bool, true, ◌+◌, ◌&&◌, length, nat_lt}
 use Rattle.std.specs.List.{list_all}
 use Rattle.kernel_values.specs.declared.call.Call.{Call}
 use Rattle.kernel_values.specs.declared.call.Call.TheVariants as call
@@ -38,27 +38,6 @@ is_lawful_read count read = nat_lt read.place count && is_register read.reg
 -- each register is one of the 64, and each place is one of the call's handles and ids
 abbrev pub has_lawful_registers : Command → Bool
 has_lawful_registers command = list_all (is_lawful_read (handle_count command.call)) command.reads && list_all is_register command.sets
-
--- whether a thread's script may hold the call: a system call, and not the Finish that comes by itself
-abbrev pub is_thread_call : Call → Bool
-is_thread_call call.Finish = false
-is_thread_call (call.NsConnect path) = false
-is_thread_call (call.NsSend conn bytes) = false
-is_thread_call (call.NsRecv conn timeout) = false
-is_thread_call (call.NsClose conn) = false
-is_thread_call (call.NsPoke addr bytes) = false
-is_thread_call (call.NsKick queue head) = false
-is_thread_call _ = true
-
--- whether a client's script may hold the call: one of the normal world's
-abbrev pub is_client_call : Call → Bool
-is_client_call (call.NsConnect path) = true
-is_client_call (call.NsSend conn bytes) = true
-is_client_call (call.NsRecv conn timeout) = true
-is_client_call (call.NsClose conn) = true
-is_client_call (call.NsPoke addr bytes) = true
-is_client_call (call.NsKick queue head) = true
-is_client_call _ = false
 
 -- a line can spell the call: a path is one word, and flags and masks have no bits without a name
 abbrev pub can_be_spelled : Call → Bool

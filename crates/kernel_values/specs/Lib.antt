@@ -1,3 +1,4 @@
+pub mod CallKinds
 pub mod Commands
 pub mod Lending
 pub mod Origin

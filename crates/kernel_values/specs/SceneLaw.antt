@@ -6,7 +6,8 @@ use Rattle.kernel_values.specs.declared.scene.Client.{Client}
 use Rattle.kernel_values.specs.declared.scene.StartPort.{StartPort}
 use Rattle.kernel_values.specs.declared.scene.Turn.{Turn}
 use Rattle.kernel_values.specs.declared.script.Command.{Command}
-use Rattle.kernel_values.specs.Commands.{is_thread_call, is_client_call, can_be_spelled, payload_of}
+use Rattle.kernel_values.specs.Commands.{can_be_spelled, payload_of}
+use Rattle.kernel_values.specs.CallKinds.{is_thread_call, is_client_call}
 use Rattle.kernel_values.specs.Words.{is_name, is_path, are_distinct}
 
 pub record SceneValue : Type 0 where

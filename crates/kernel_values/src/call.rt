@@ -1,5 +1,8 @@
 //! The system calls, and the calls of the normal world's clients.
 
+ghost use Rattle.std.specs.Prelude.{◌≡◌};
+ghost use Rattle.kernel_values.specs.CallKinds.{kind_of, is_kind_of_client, is_kind_of_driver, is_kind_of_thread};
+
 use crate::copied::Copied;
 use crate::flags::{ConnectFlags, Events, MemFlags, PortFlags};
 use crate::ids::Handle;
@@ -122,6 +125,72 @@ pub enum Call {
         queue: u32,
         head: u32,
     },
+}
+
+/// Who makes a call, and whether the driver takes part in it.
+#[derive(Clone, Copy, PartialEq, Eq, Debug)]
+pub enum CallKind {
+    /// A system call of a thread.
+    Thread,
+    /// The call that comes by itself where a script has ended, a thread's or a client's.
+    Finish,
+    /// A client's call of its driver, which first takes back what the device has used.
+    Driver,
+    /// A client's write past its driver, of memory or of a ring.
+    Direct,
+}
+
+impl CallKind {
+    /// Whether threads make calls of this kind.
+    pub fn is_of_thread(self) -> bool
+        ensures { result ≡ is_kind_of_thread self }
+    {
+        match self {
+            CallKind::Thread | CallKind::Finish => true,
+            CallKind::Driver | CallKind::Direct => false,
+        }
+    }
+
+    /// Whether clients of the normal world make calls of this kind.
+    pub fn is_of_client(self) -> bool
+        ensures { result ≡ is_kind_of_client self }
+    {
+        match self {
+            CallKind::Thread => false,
+            CallKind::Finish | CallKind::Driver | CallKind::Direct => true,
+        }
+    }
+
+    /// Whether the driver takes back what the device has used before it acts.
+    pub fn drains(self) -> bool
+        ensures { result ≡ is_kind_of_driver self }
+    {
+        match self {
+            CallKind::Driver => true,
+            CallKind::Thread | CallKind::Finish | CallKind::Direct => false,
+        }
+    }
+}
+
+impl Call {
+    /// The kind of the call.
+    pub fn kind(&self) -> CallKind
+        ensures { result ≡ kind_of self.now }
+    {
+        match self {
+            Call::Finish => CallKind::Finish,
+            Call::NsConnect { path: _ } => CallKind::Driver,
+            Call::NsSend { conn: _, bytes: _ } => CallKind::Driver,
+            Call::NsRecv {
+                conn: _,
+                timeout: _,
+            } => CallKind::Driver,
+            Call::NsClose { conn: _ } => CallKind::Driver,
+            Call::NsPoke { addr: _, bytes: _ } => CallKind::Direct,
+            Call::NsKick { queue: _, head: _ } => CallKind::Direct,
+            _ => CallKind::Thread,
+        }
+    }
 }
 
 impl Copied for Call {

@@ -17,7 +17,7 @@ pub mod script;
 pub mod state;
 pub mod world;
 
-pub use call::{Call, Timeout};
+pub use call::{Call, CallKind, Timeout};
 pub use copied::Copied;
 pub use entry::{ActorStatus, EndFacts, EndSeq, Entry, Event, Seqs};
 pub use errno::Errno;

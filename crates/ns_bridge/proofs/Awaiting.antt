@@ -11,7 +11,7 @@ use Rattle.kernel_values.specs.declared.world.ClientWaitOn.{ClientWaitOn}
 use Rattle.kernel_types.specs.Clients.{client_cancelled, client_changed, client_ended, client_running, client_waiting, new_wait}
 use Rattle.kernel_types.specs.Objects.{map_at}
 use Rattle.kernel_types.specs.Opening.{opening_client}
-use Rattle.ns_driver.specs.Standing.{wait_of}
+use Rattle.ns_driver.specs.Value.{wait_of}
 use Rattle.ns_driver.specs.Worlds.{clients_with}
 use Rattle.ns_bridge.specs.Acts.{activity_at}
 use Rattle.ns_bridge.specs.Waits.{AreAwaited, IsAwaited}

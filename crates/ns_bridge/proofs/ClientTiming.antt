@@ -11,8 +11,8 @@ use Rattle.kernel_values.specs.declared.world.ClientActivity.TheVariants as acti
 use Rattle.kernel_values.specs.declared.world.ClientState.{ClientState}
 use Rattle.kernel_values.specs.declared.world.ClientWait.{ClientWait}
 use Rattle.kernel_values.specs.declared.world.ClientWaitOn.{ClientWaitOn}
-use Rattle.kernel_types.specs.Built.{is_built}
-use Rattle.kernel_types.specs.Clients.{client_cancelled, client_changed, client_ended, client_running, client_waiting, drains, new_wait}
+use Rattle.kernel_types.specs.Clients.{client_cancelled, client_changed, client_ended, client_running, client_waiting, new_wait}
+use Rattle.kernel_values.specs.CallKinds.{drains}
 use Rattle.kernel_types.specs.Waits.{is_due}
 use Rattle.ns_driver.specs.Acts.{acted, awaited, bare, told, wait_if}
 use Rattle.ns_driver.specs.Worlds.{clients_with, deadline_after}

@@ -16,7 +16,8 @@ use Rattle.kernel_values.specs.declared.world.ConnectionStatus.{ConnectionStatus
 use Rattle.kernel_values.specs.declared.world.ConnectionStatus.TheVariants as connection_status
 use Rattle.kernel_values.specs.declared.world.Driver.{Driver}
 use Rattle.kernel_values.specs.declared.world.World.{World}
-use Rattle.kernel_types.specs.Clients.{Acted, answer_of_wait, asked_connection, asks, close_by_status, close_on, closed_connection, connect_answer, connect_answer_of, counts, drains, is_asked, is_closed, next_address, ns_act, ns_close_call, ns_connect_call, ns_recv_call, ns_refuses, ns_send_call, ns_waits, own_connection, receive_answer, receive_from, receive_on, receive_or_wait, send_by, send_by_status, send_established, send_frame, send_limit, send_on, sent_in, shuts, with_inbox}
+use Rattle.kernel_types.specs.Clients.{Acted, answer_of_wait, asked_connection, asks, close_by_status, close_on, closed_connection, connect_answer, connect_answer_of, counts, is_asked, is_closed, next_address, ns_act, ns_close_call, ns_connect_call, ns_recv_call, ns_refuses, ns_send_call, ns_waits, own_connection, receive_answer, receive_from, receive_on, receive_or_wait, send_by, send_by_status, send_established, send_frame, send_limit, send_on, sent_in, shuts, with_inbox}
+use Rattle.kernel_values.specs.CallKinds.{drains}
 use Rattle.kernel_types.specs.Drains.{connection_changed, connection_of, connection_place, drained}
 use Rattle.kernel_types.specs.Objects.{set_if}
 use Rattle.kernel_types.specs.Sending.{frame, leave_frame, request_frame}

@@ -11,11 +11,11 @@ use Rattle.kernel_types.specs.Device.{DeviceStep, device_step, has_device}
 use Rattle.kernel_types.specs.History.{entry_of, state_or}
 use Rattle.kernel_types.specs.Kernel.{Did, Refused, step_limit}
 use Rattle.kernel_types.specs.Limits.{FitsIn, path_room}
-use Rattle.kernel_types.specs.Step.{Stepped, device_has_work, device_stepped, full_step, step}
+use Rattle.kernel_types.specs.Step.{Stepped, device_has_work, device_stepped, step}
 use Rattle.kernel_types.specs.declared.kernel.StepCause.TheVariants.{NotMovable}
 use Rattle.step_laws.proofs.Bridged.{DeviceKeepsIf, any_change, device_keeps}
 use Rattle.kernel_laws.proofs.SameActors.{steps_keep}
-use Rattle.ns_device.specs.declared.told.Told.{Told}
+use Rattle.ns_device.specs.declared.told.DeviceOutcome.{DeviceOutcome}
 use Rattle.ns_device.specs.Steps.{Stepped as DeviceStepped}
 use Rattle.ns_device.specs.Worlds.{DeviceStepsAnywhere, DeviceWorksAnywhere, device_left, left_in, told_of}
 use Rattle.ns_bridge.specs.Parts.{Normal, parts, state_of, world_of}
@@ -26,7 +26,7 @@ use Rattle.ns_bridge.proofs.OnTime.{device_leaves}
 use Rattle.ns_bridge.proofs.Threads.{threads_stay}
 
 -- the step that was told
-abbrev told_stepped : State → Device → Normal → Told → Stepped
+abbrev told_stepped : State → Device → Normal → DeviceOutcome → Stepped
 told_stepped t d n told = record { answer = answer.Device told.reply; seqs = told.seqs; state = state_of t.core d n }
 
 there_is_device : (clients : List ClientState) → 0 < length clients → has_device clients ≡ true
@@ -37,13 +37,13 @@ no_device : (clients : List ClientState) → length clients ≡ 0 → has_device
 no_device [] h = refl
 no_device (client ∷ clients) h = absurd (omega arith)
 
-device_is : DeviceStepsAnywhere → (s t : State) (d e : Device) (n after : Normal) (o : Option Told) → 0 < length n.clients
+device_is : DeviceStepsAnywhere → (s t : State) (d e : Device) (n after : Normal) (o : Option DeviceOutcome) → 0 < length n.clients
     → DeviceStepped o s t n.memory after.memory d e → after.driver ≡ n.driver → after.clients ≡ n.clients
-    → full_step (state_of s.core d n) event.Device ≡ option_map (told_stepped t e after) o
+    → step (state_of s.core d n) event.Device ≡ option_map (told_stepped t e after) o
 device_is anywhere s t d e n after o some stepped driver clients =
     let left : option_map (left_in (world_of d n)) (device_left s.core n.memory d) ≡ option_map (left_in (world_of d n)) (option_map (told_of t.core after.memory e) o) =
     ap (option_map (left_in (world_of d n))) (sym stepped.left_is) in
-    let here : (told : Option Told) → option_map (left_in (world_of d n)) (option_map (told_of t.core after.memory e) told)
+    let here : (told : Option DeviceOutcome) → option_map (left_in (world_of d n)) (option_map (told_of t.core after.memory e) told)
     ≡ option_map (told_stepped t e (record { memory = after.memory; driver = n.driver; clients = n.clients })) told =
     λ told. elim told as (λ v. option_map (left_in (world_of d n)) (option_map (told_of t.core after.memory e) v)
     ≡ option_map (told_stepped t e (record { memory = after.memory; driver = n.driver; clients = n.clients })) v) [ None ↦ refl | Some x ↦ refl ] in
@@ -51,7 +51,7 @@ device_is anywhere s t d e n after o some stepped driver clients =
     ∙ (ap (λ x. option_map (told_stepped t e (record { memory = after.memory; driver = x; clients = n.clients })) o) (sym driver)
     ∙ ap (λ x. option_map (told_stepped t e (record { memory = after.memory; driver = after.driver; clients = x })) o) (sym clients))))
 
-pub device_did : DeviceStepsAnywhere → (s t : State) (d e : Device) (n after : Normal) (told : Told) (made : ℕ) → 0 < length n.clients → made < step_limit
+pub device_did : DeviceStepsAnywhere → (s t : State) (d e : Device) (n after : Normal) (told : DeviceOutcome) (made : ℕ) → 0 < length n.clients → made < step_limit
     → DeviceStepped (Some told) s t n.memory after.memory d e → after.driver ≡ n.driver → after.clients ≡ n.clients
     → Did event.Device (state_of s.core d n) (state_of t.core e after) made (made + 1) (record { event = event.Device; answer = answer.Device told.reply; seqs = told.seqs })
 unfolding step
@@ -76,7 +76,7 @@ no_work s [] there none = core_device s there
 no_work s (client ∷ clients) there none = absurd (omega arith)
 
 pub lone_device_refused : (s : State) (made : ℕ) → length s.world.clients ≡ 0 → Refused event.Device s s made made (record { event = event.Device; cause = NotMovable None })
-unfolding step full_step device_has_work
+unfolding step device_has_work
 lone_device_refused s made none = record { event_is = refl; state_is = refl; made_is = refl; cause = (no_step (device_step s) (no_work s s.world.clients refl none), refl) }
 
 normal_stays : (n after : Normal) → after.memory ≡ n.memory → after.driver ≡ n.driver → after.clients ≡ n.clients → after ≡ n
@@ -103,15 +103,15 @@ done_fits s (Some done) keeps r is =
     let same : device_stepped done ≡ r = cc in
     subst (λ (x : Stepped). FitsIn path_room x.answer) same keeps.fits
 
-pub device_fits : DeviceStepsAnywhere → (s t : State) (d e : Device) (n after : Normal) (told : Told) → 0 < length n.clients
+pub device_fits : DeviceStepsAnywhere → (s t : State) (d e : Device) (n after : Normal) (told : DeviceOutcome) → 0 < length n.clients
     → DeviceStepped (Some told) s t n.memory after.memory d e → after.driver ≡ n.driver → after.clients ≡ n.clients → FitsIn path_room (answer.Device told.reply)
-unfolding full_step
+unfolding step
 device_fits anywhere s t d e n after told some stepped driver clients =
     let w : State = state_of s.core d n in
     done_fits w (device_step w) (device_keeps w (any_change w.core)) (told_stepped t e after told)
     (device_is anywhere s t d e n after (Some told) some stepped driver clients)
 
-pub device_whole : DeviceStepsAnywhere → (s t : State) (d e : Device) (n after : Normal) (told : Told) (core_made core_remade threads made : ℕ) → 0 < length n.clients
+pub device_whole : DeviceStepsAnywhere → (s t : State) (d e : Device) (n after : Normal) (told : DeviceOutcome) (core_made core_remade threads made : ℕ) → 0 < length n.clients
     → DeviceStepped (Some told) s t n.memory after.memory d e → after.driver ≡ n.driver → after.clients ≡ n.clients → core_remade ≤ core_made + 1
     → IsWhole s.core core_made threads made → IsWhole t.core core_remade threads (made + 1)
 unfolding step
@@ -122,7 +122,7 @@ device_whole anywhere s t d e n after told core_made core_remade threads made so
       count = threads_stay (state_of s.core d n) (state_of t.core e after) (steps_keep (state_of s.core d n) event.Device (told_stepped t e after told) is) (ap length clients) ∙ whole.count;
     }
 
-pub device_on_time : DeviceStepsAnywhere → (s t : State) (d e : Device) (n after : Normal) (told : Told) → 0 < length n.clients
+pub device_on_time : DeviceStepsAnywhere → (s t : State) (d e : Device) (n after : Normal) (told : DeviceOutcome) → 0 < length n.clients
     → DeviceStepped (Some told) s t n.memory after.memory d e → after.driver ≡ n.driver → after.clients ≡ n.clients → IsOnTime s.core n.clients → IsOnTime t.core after.clients
 device_on_time anywhere s t d e n after told some stepped driver clients time =
     subst (λ (cs : List ClientState). IsOnTime t.core cs) (sym clients)

@@ -24,12 +24,12 @@ bare_core clock = record { apps = []; threads = []; objects = []; next = 0; cloc
 abbrev bare_state : ℕ → Normal → State
 bare_state clock n = state_of (bare_core clock) (opening_device n.driver.size) n
 
-pub record Fits (room : Room) (a : Answered) : Type 0 where
+pub record FitsRoom (room : Room) (a : Answered) : Type 0 where
   pub fits : FitsIn room a.answer
   pub inboxes : All IsInboxWithin a.normal.driver.connections
 
 come_fits : (room : Room) (clock : ℕ) (n : Normal) (o : Option Acted) (a : Answered) → All IsInboxWithin n.driver.connections → ActsIf room (bare_state clock n).world o
-    → option_map (beside_core (bare_core clock)) o ≡ Some (beside (bare_core clock) (opening_device n.driver.size) a) → Fits room a
+    → option_map (beside_core (bare_core clock)) o ≡ Some (beside (bare_core clock) (opening_device n.driver.size) a) → FitsRoom room a
 come_fits room clock n None a inboxes acts is = absurd (cc)
 come_fits room clock n (Some acted) a inboxes acts is =
     let short : AllByRecursion IsInboxWithin n.driver.connections = recursion_from_All IsInboxWithin n.driver.connections inboxes in
@@ -42,13 +42,13 @@ come_fits room clock n (Some acted) a inboxes acts is =
     }
 
 pub called_fits : (clock client start : ℕ) (asked : Call) (n : Normal) (a : Answered) → is_served asked ≡ true → All IsInboxWithin n.driver.connections
-    → client_called clock client start asked n ≡ Some a → Fits (room_of_call asked) a
+    → client_called clock client start asked n ≡ Some a → FitsRoom (room_of_call asked) a
 called_fits clock client start asked n a served inboxes is =
     let s : State = bare_state clock n in
     come_fits (room_of_call asked) clock n (client_begin s client start asked) a inboxes (begin_acts s client start asked)
     (begin_lifts s client start asked served ∙ ap (option_map (beside s.core s.world.device)) is)
 
-pub resumed_fits : (clock client start : ℕ) (n : Normal) (a : Answered) → All IsInboxWithin n.driver.connections → client_resumed clock client start n ≡ Some a → Fits full_room a
+pub resumed_fits : (clock client start : ℕ) (n : Normal) (a : Answered) → All IsInboxWithin n.driver.connections → client_resumed clock client start n ≡ Some a → FitsRoom full_room a
 resumed_fits clock client start n a inboxes is =
     let s : State = bare_state clock n in
     come_fits full_room clock n (client_resume s client start) a inboxes (resume_acts s client start)

@@ -20,7 +20,7 @@ use Rattle.kernel_types.specs.History.{entry_of, state_or}
 use Rattle.kernel_types.specs.Kernel.{Did, Refused, step_limit}
 use Rattle.kernel_types.specs.Limits.{FitsIn, no_room}
 use Rattle.kernel_types.specs.Outcome.{no_seqs}
-use Rattle.kernel_types.specs.Step.{any_may_move, client_status, device_has_work, full_step, has_begun_and_goes_on, idle, idle_lawful, idle_until, is_running, least_client_deadline, next_deadline, statuses, step, world_idle}
+use Rattle.kernel_types.specs.Step.{any_may_move, client_status, device_has_work, step, has_begun_and_goes_on, idle, idle_lawful, idle_until, is_running, least_client_deadline, next_deadline, statuses, world_idle}
 use Rattle.kernel_types.specs.Sweep.{kept, pruned, sweep}
 use Rattle.kernel_types.specs.Waits.{activity_may_move, thread_may_move}
 use Rattle.kernel_types.specs.Device.{device_step}
@@ -38,7 +38,7 @@ world_after (Some deadline) d n = refl
 pub idle_did : (s t : State) (d : Device) (n : Normal) (deadline : Option ℕ) (core_made core_remade made : ℕ) → idle_lawful (state_of s.core d n) ≡ true → made < step_limit
     → deadline ≡ sooner (least_deadline s.core) (least_client_deadline n.clients) → Idled deadline s t core_made core_remade
     → Did event.Idle (state_of s.core d n) (state_of t.core d (idled deadline n)) made (made + 1) (record { event = event.Idle; answer = idle_answer deadline; seqs = no_seqs })
-unfolding step full_step next_deadline
+unfolding step next_deadline
 idle_did s t d n deadline core_made core_remade made lawful below deadline_is idled_is =
     let w : State = state_of s.core d n in
     let is : step w event.Idle ≡ Some (idle_until deadline w) =
@@ -54,7 +54,7 @@ idle_did s t d n deadline core_made core_remade made lawful below deadline_is id
     }
 
 pub idle_refused : (s : State) (made : ℕ) → idle_lawful s ≡ false → Refused event.Idle s s made made (record { event = event.Idle; cause = NotMovable None })
-unfolding step full_step
+unfolding step
 idle_refused s made lawful = record { event_is = refl; state_is = refl; made_is = refl; cause = (ap (λ b. cond b (Some (idle s)) None) lawful, refl) }
 
 pub idle_fits : (deadline : Option ℕ) → FitsIn no_room (idle_answer deadline)

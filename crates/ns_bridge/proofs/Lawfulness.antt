@@ -16,18 +16,18 @@ use Rattle.kernel_values.specs.declared.world.ClientActivity.{ClientActivity}
 use Rattle.kernel_values.specs.declared.world.ClientActivity.TheVariants as client_activity
 use Rattle.kernel_values.specs.declared.world.ClientState.{ClientState}
 use Rattle.kernel_values.specs.declared.world.World.{World}
-use Rattle.kernel_types.specs.Built.{is_built}
 use Rattle.kernel_types.specs.Clients.{client_may_move, end_of_ns_wait, ns_act}
 use Rattle.kernel_types.specs.CoreStep.{act, begin_as, begin_of, core_begin, core_resume, resume_as, resume_of, resumed, status_of, swept}
 use Rattle.kernel_types.specs.Device.{device_step}
 use Rattle.kernel_types.specs.Drains.{drained}
 use Rattle.kernel_types.specs.Facts.{status_at}
-use Rattle.kernel_types.specs.Step.{Stepped, begin, beside_core, client_begin, client_call_as, client_call_of, client_may_move_if, client_movable, client_number, client_resume, client_resume_as, client_resume_of, client_status, device_has_work, device_stepped, full_step, idle, idle_lawful, in_world, is_thread, movable, resume, runs_again, statuses, step}
+use Rattle.kernel_types.specs.Step.{Stepped, begin, beside_core, client_begin, client_call_as, client_call_of, client_may_move_if, client_movable, client_number, client_resume, client_resume_as, client_resume_of, client_status, device_has_work, device_stepped, step, idle, idle_lawful, in_world, is_thread, movable, resume, runs_again, statuses}
 use Rattle.kernel_types.specs.Kernel.{CauseHolds, status_for, step_limit}
 use Rattle.kernel_types.specs.declared.kernel.StepCause.TheVariants.{NotMovable, Full}
 use Rattle.kernel_types.specs.Waits.{activity_may_move, end_of_wait, may_move, thread_movable}
 use Rattle.kernel_types.proofs.Actors.{begin_of_thread, resume_of_thread, thread_moves, status_of_client, status_of_thread}
-use Rattle.ns_bridge.specs.Lawful.{is_lawful, is_of_client, is_of_thread, is_running_as, is_waiting_as, makes, runs_as, waits_as}
+use Rattle.ns_bridge.specs.Lawful.{is_lawful, is_running_as, is_waiting_as, makes, runs_as, waits_as}
+use Rattle.kernel_values.specs.CallKinds.{is_of_client, is_of_thread}
 use Rattle.ns_bridge.proofs.ClientSteps.{statuses_long}
 use Rattle.ns_bridge.proofs.Readings.{none_past, past}
 
@@ -225,7 +225,7 @@ idles s true = refl
 idles s false = refl
 
 pub lawful_is : (s : State) (e : Event) → is_lawful s e ≡ is_some (step s e)
-unfolding is_lawful step full_step device_has_work
+unfolding is_lawful step device_has_work
 lawful_is s (event.Begin actor start asked) = sym (begins s actor.0 start asked (is_thread s actor.0) refl)
 lawful_is s (event.Resume actor start) = sym (resumes s actor.0 start (is_thread s actor.0) refl)
 lawful_is s event.Device = sym (stepped_some device_stepped (device_step s))

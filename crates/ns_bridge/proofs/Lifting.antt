@@ -16,13 +16,13 @@ use Rattle.kernel_values.specs.declared.world.ClientState.{ClientState}
 use Rattle.kernel_values.specs.declared.world.ClientWait.{ClientWait}
 use Rattle.kernel_values.specs.declared.world.Driver.{Driver}
 use Rattle.kernel_values.specs.declared.world.World.{World}
-use Rattle.kernel_types.specs.Built.{is_built}
-use Rattle.kernel_types.specs.Clients.{Acted, client_may_move, drains, end_of_ns_wait, ns_act}
+use Rattle.kernel_types.specs.Clients.{Acted, client_may_move, end_of_ns_wait, ns_act}
+use Rattle.kernel_values.specs.CallKinds.{drains}
 use Rattle.kernel_types.specs.CoreStep.{core_begin, core_resume}
 use Rattle.kernel_types.specs.Drains.{drained}
-use Rattle.kernel_types.specs.Step.{beside_core, begin, client_begin, client_call_as, client_call_of, client_may_move_if, client_movable, client_number, client_resume, client_resume_as, client_resume_of, full_step, in_world as in_kernel_world, is_thread, resume, runs_again, step}
+use Rattle.kernel_types.specs.Step.{beside_core, begin, client_begin, client_call_as, client_call_of, client_may_move_if, client_movable, client_number, client_resume, client_resume_as, client_resume_of, step, in_world as in_kernel_world, is_thread, resume, runs_again}
 use Rattle.kernel_types.specs.Waits.{is_due}
-use Rattle.ns_driver.specs.Acts.{Told, acted, bare, begun, told}
+use Rattle.ns_driver.specs.Acts.{DriverOutcome, acted, bare, begun, told}
 use Rattle.ns_driver.specs.Worlds.{begun_in, ended, ended_if, resumed_by, resumed_in}
 use Rattle.ns_driver.proofs.Locality.{calls_anywhere, waits_end_anywhere, waits_move_anywhere}
 use Rattle.ns_bridge.specs.Acts.{activity_at, activity_moves, activity_moves_if, asked_of_driver, beside, call_told, called, called_as, called_of, client_acted, client_called, client_resumed, ended_answer, is_over, resumed_as, resumed_of, run_again, wait_ended, wait_moves, with_ended}
@@ -136,10 +136,10 @@ begin_lifts s client start asked served =
 abbrev left_in : World → Answer → List ℕ → Driver → Option (List ℕ) → Acted
 left_in w x memory driver frame = record { answer = x; world = record w { memory = memory; driver = driver }; frame = frame }
 
-abbrev left_alone : Bool → Answer → List ℕ → Driver → Told
+abbrev left_alone : Bool → Answer → List ℕ → Driver → DriverOutcome
 left_alone cancelled x memory driver = record { answer = ended_answer cancelled x; memory = memory; driver = driver }
 
-abbrev over_alone : Bool → Bool → Answer → List ℕ → Driver → Option Told
+abbrev over_alone : Bool → Bool → Answer → List ℕ → Driver → Option DriverOutcome
 over_alone cancelled due x memory driver = cond (is_over cancelled due x) (Some (left_alone cancelled x memory driver)) None
 
 abbrev EndLifts : CoreState → World → ℕ → Bool → Bool → List ℕ → Driver → Option (List ℕ) → Type 0
@@ -215,7 +215,7 @@ over_is clock wait memory driver =
     let r : Acted = resumed_in wait.on w in
     sym (over_some clock wait r.answer r) ∙ (ap (λ (o : Option Acted). is_some o) (sym (waits_end_anywhere clock wait w)) ∙ waits_move_anywhere clock wait w)
 
-pub wait_done : (clock client : ℕ) (wait : ClientWait) (n : Normal) (t : Told) → option_map told (acted client (Some wait.on) None (bare n.memory n.driver)) ≡ Some t
+pub wait_done : (clock client : ℕ) (wait : ClientWait) (n : Normal) (t : DriverOutcome) → option_map told (acted client (Some wait.on) None (bare n.memory n.driver)) ≡ Some t
     → wait_moves clock wait n.memory n.driver ≡ true → wait_ended clock client wait n ≡ Some (run_again client n (with_ended wait.cancelled t))
 unfolding wait_ended
 wait_done clock client wait n t is moves =
@@ -223,7 +223,7 @@ wait_done clock client wait n t is moves =
     let there : Some (told b) ≡ Some t = is in
     let same : told b ≡ t = cc in
     ap (λ o. option_map (run_again client n) (cond o (Some (with_ended wait.cancelled (told b))) None)) (over_is clock wait n.memory n.driver ∙ moves)
-    ∙ ap (λ (x : Told). Some (run_again client n (with_ended wait.cancelled x))) same
+    ∙ ap (λ (x : DriverOutcome). Some (run_again client n (with_ended wait.cancelled x))) same
 
 pub wait_stays : (clock client : ℕ) (wait : ClientWait) (n : Normal) → wait_moves clock wait n.memory n.driver ≡ false → wait_ended clock client wait n ≡ None
 unfolding wait_ended
@@ -267,7 +267,7 @@ resume_is s k client start is =
 
 pub client_step : (s : State) (threads client : ℕ) (e : Event) → threads ≡ length s.core.threads → IsOfClient threads client e
     → step s e ≡ option_map (beside s.core s.world.device) (client_acted s.core.clock client e (normal_of s.world))
-unfolding step full_step client_acted
+unfolding step client_acted
 client_step s threads client (event.Begin actor start asked) count of =
     let is : actor.0 ≡ length s.core.threads + client = omega (arith, of, count) in
     let P : Bool → Type 0 = λ b. is_built asked ≡ b → cond b (begin s actor.0 start asked) None

@@ -16,14 +16,13 @@ use Rattle.kernel_values.specs.declared.state.State.{State}
 use Rattle.kernel_values.specs.declared.state.Thread.{Thread}
 use Rattle.kernel_values.specs.declared.world.ClientState.{ClientState}
 use Rattle.kernel_values.specs.declared.world.World.{World}
-use Rattle.kernel_types.specs.Built.{is_built}
 use Rattle.kernel_types.specs.CoreStep.{core_begin, core_resume}
 use Rattle.kernel_types.specs.Device.{DeviceStep, device_step}
 use Rattle.kernel_types.specs.History.{entry_of, next_state, state_or}
 use Rattle.kernel_types.specs.Kernel.{Did, Refused}
 use Rattle.kernel_types.specs.Opening.{opening, opening_activity, opening_client, opening_threads, without_clients}
 use Rattle.kernel_types.specs.Outcome.{Outcome}
-use Rattle.kernel_types.specs.Step.{Stepped, begin, device_stepped, full_step, in_world, step}
+use Rattle.kernel_types.specs.Step.{Stepped, begin, device_stepped, step, in_world}
 use Rattle.kernel_types.specs.declared.kernel.StepRefused.{StepRefused}
 use Rattle.kernel_types.proofs.Actors.{begin_of_thread, below_is_thread, resume_of_thread}
 use Rattle.step_laws.proofs.Bridged.{DeviceKeepsIf, device_keeps}
@@ -54,7 +53,7 @@ in_world_stays clock w None keeps = tt
 in_world_stays clock w (Some outcome) keeps = keeps.kept
 
 thread_stays : (s : State) (e : Event) → IsOfThread (length s.core.threads) e → IsShortEvent e → IsTimely s.core.clock s.core → StaysOnTime s.core.clock (step s e)
-unfolding step full_step
+unfolding step
 thread_stays s (event.Begin actor start asked) of short t =
     let done : StaysOnTime s.core.clock (begin s actor.0 start asked) =
     subst (λ (o : Option Stepped). StaysOnTime s.core.clock o) (sym (begin_of_thread s actor.0 start asked (below_is_thread s actor.0 of)))
@@ -97,11 +96,11 @@ unfolding of_device
 device_stays s t None keeps = tt
 device_stays s t (Some done) keeps = keeps.kept
 
-pub device_leaves : (s : State) (r : Stepped) (clients : List ClientState) → IsOnTime s.core clients → full_step s event.Device ≡ Some r → IsOnTime r.state.core clients
-unfolding full_step
+pub device_leaves : (s : State) (r : Stepped) (clients : List ClientState) → IsOnTime s.core clients → step s event.Device ≡ Some r → IsOnTime r.state.core clients
+unfolding step
 device_leaves s r clients time is =
     let t : IsTimely s.core.clock s.core = timely s.core clients time in
-    let stays : StaysOnTime s.core.clock (full_step s event.Device) = device_stays s t (device_step s) (device_keeps s (of_device s.core.clock s.core t)) in
+    let stays : StaysOnTime s.core.clock (step s event.Device) = device_stays s t (device_step s) (device_keeps s (of_device s.core.clock s.core t)) in
     on_time s.core.clock r.state.core clients (subst (λ (o : Option Stepped). StaysOnTime s.core.clock o) is stays) time.clients
 
 -- the beginning

@@ -14,19 +14,20 @@ use Rattle.kernel_values.specs.declared.world.ClientState.{ClientState}
 use Rattle.kernel_values.specs.declared.world.ClientWait.{ClientWait}
 use Rattle.kernel_values.specs.declared.world.ClientWaitOn.{ClientWaitOn}
 use Rattle.kernel_values.specs.declared.world.Driver.{Driver}
-use Rattle.kernel_types.specs.Clients.{Acted, client_changed, client_ended, client_running, drains}
+use Rattle.kernel_types.specs.Clients.{Acted, client_changed, client_ended, client_running}
+use Rattle.kernel_values.specs.CallKinds.{drains}
 use Rattle.kernel_types.specs.Limits.{IsInboxWithin, full_room, room_of_call}
 use Rattle.kernel_types.specs.Objects.{map_at}
 use Rattle.kernel_types.specs.Opening.{opening_client, opening_driver}
-use Rattle.ns_driver.specs.Acts.{Told, acted, awaited, bare, begun, told, wait_after, wait_if}
-use Rattle.ns_driver.specs.Standing.{wait_of}
+use Rattle.ns_driver.specs.Acts.{DriverOutcome, acted, awaited, bare, begun, told, wait_after, wait_if}
+use Rattle.ns_driver.specs.Value.{wait_of}
 use Rattle.ns_driver.specs.Worlds.{clients_with, deadline_after, resumed_by}
 use Rattle.ns_bridge.specs.Acts.{Answered, activity_at, asked_of_driver, call_told, called, called_of, client_called, client_resumed, done_without_driver, ended_answer, requests, resumed_of, run_again, wait_ended, wait_moves, with_ended, with_told}
 use Rattle.ns_bridge.specs.Parts.{Normal, parts}
 use Rattle.ns_bridge.specs.Waits.{AreAwaited, IsKept}
 use Rattle.ns_bridge.proofs.Awaiting.{begun_awaited, ended_awaited, opening_awaited, resumed_awaited, wait_is}
 use Rattle.ns_bridge.proofs.Counting.{call_adds, wait_adds}
-use Rattle.ns_bridge.proofs.Fitting.{Fits, called_fits, resumed_fits}
+use Rattle.ns_bridge.proofs.Fitting.{FitsRoom, called_fits, resumed_fits}
 use Rattle.ns_bridge.proofs.Lifting.{drains_is_served, wait_done}
 
 -- Calls of the driver.
@@ -36,7 +37,7 @@ wait_of_set [] client own h = absurd (omega arith)
 wait_of_set (on ∷ waits) zero own h = refl
 wait_of_set (on ∷ waits) (suc client) own h = wait_of_set waits client own (omega arith)
 
-asked_is : (clock client : ℕ) (asked : Call) (memory : List ℕ) (d : Driver) (clients after : List ClientState) (before own : Option ClientWaitOn) (t : Told)
+asked_is : (clock client : ℕ) (asked : Call) (memory : List ℕ) (d : Driver) (clients after : List ClientState) (before own : Option ClientWaitOn) (t : DriverOutcome)
     → option_map told (acted client before (Some asked) (bare memory d)) ≡ Some t → own ≡ wait_if (awaited d asked) t.answer
     → after ≡ clients_with client (deadline_after clock asked) own clients
     → asked_of_driver clock client asked (parts memory d clients) ≡ Some (with_told after t)
@@ -48,7 +49,7 @@ asked_is clock client asked memory d clients after before own t is own_is after_
 
 -- the driver was asked by a copy of the call, and the client begins to wait as the driver says
 pub asking_is : (clock client : ℕ) (asked copy : Call) (deadline : Option ℕ) (memory : List ℕ) (d : Driver) (clients after : List ClientState) (waits now : List (Option ClientWaitOn))
-    (before : Option ClientWaitOn) (t : Told) → copy ≡ asked → deadline ≡ deadline_after clock asked → client < length waits
+    (before : Option ClientWaitOn) (t : DriverOutcome) → copy ≡ asked → deadline ≡ deadline_after clock asked → client < length waits
     → option_map told (acted client before (Some copy) (bare memory d)) ≡ Some t → now ≡ slice_set waits client (wait_after d before (Some copy) t.answer)
     → after ≡ clients_with client deadline (wait_of now client) clients
     → Some (with_told after t) ≡ asked_of_driver clock client asked (parts memory d clients)
@@ -88,7 +89,7 @@ asked_adds clock client asked n a d is =
     go (begun client asked (bare n.memory n.driver)) refl is
 
 pub asking_fits : (clock client start : ℕ) (asked : Call) (n : Normal) (a : Answered) → activity_at n.clients client ≡ Some (activity.Running start) → drains asked ≡ true
-    → All IsInboxWithin n.driver.connections → asked_of_driver clock client asked n ≡ Some a → Fits (room_of_call asked) a
+    → All IsInboxWithin n.driver.connections → asked_of_driver clock client asked n ≡ Some a → FitsRoom (room_of_call asked) a
 asking_fits clock client start asked n a runs d inboxes is =
     called_fits clock client start asked n a (drains_is_served asked d) inboxes (called_is clock client start asked n runs d ∙ is)
 
@@ -132,13 +133,13 @@ resumed_is clock client start wait n waits =
     ap (λ o. resumed_of clock client start n o) waits ∙ ap (λ b. cond b (wait_ended clock client wait n) None) (same_number start)
 
 -- a wait that moves, and what the driver told at its end
-pub record Ends (clock client start : ℕ) (wait : ClientWait) (n : Normal) (t : Told) : Type 0 where
+pub record Ends (clock client start : ℕ) (wait : ClientWait) (n : Normal) (t : DriverOutcome) : Type 0 where
   pub waits : activity_at n.clients client ≡ Some (activity.Waiting start wait)
   pub told_is : option_map told (acted client (Some wait.on) None (bare n.memory n.driver)) ≡ Some t
   pub moves : wait_moves clock wait n.memory n.driver ≡ true
 
 -- by what the driver knows of the wait, and by what the test and the driver saw of the memory
-pub ends_so : (clock client start : ℕ) (wait : ClientWait) (bytes looked seen : List ℕ) (d : Driver) (ons : List (Option ClientWaitOn)) (clients : List ClientState) (t : Told) (moves : Bool)
+pub ends_so : (clock client start : ℕ) (wait : ClientWait) (bytes looked seen : List ℕ) (d : Driver) (ons : List (Option ClientWaitOn)) (clients : List ClientState) (t : DriverOutcome) (moves : Bool)
     → AreAwaited clients ons → activity_at clients client ≡ Some (activity.Waiting start wait) → moves ≡ wait_moves clock wait looked d → moves ≡ true → looked ≡ bytes
     → option_map told (acted client (wait_of ons client) None (bare seen d)) ≡ Some t → seen ≡ bytes → Ends clock client start wait (parts bytes d clients) t
 ends_so clock client start wait bytes looked seen d ons clients t moves awaited waits moves_is does looked_is is seen_is =
@@ -151,12 +152,12 @@ ends_so clock client start wait bytes looked seen d ons clients t moves awaited 
       moves = sym (moves_is ∙ ap (λ (xs : List ℕ). wait_moves clock wait xs d) looked_is) ∙ does;
     }
 
-ends_done : (clock client start : ℕ) (wait : ClientWait) (n : Normal) (t : Told) → Ends clock client start wait n t
+ends_done : (clock client start : ℕ) (wait : ClientWait) (n : Normal) (t : DriverOutcome) → Ends clock client start wait n t
     → client_resumed clock client start n ≡ Some (run_again client n (with_ended wait.cancelled t))
 ends_done clock client start wait n t e = resumed_is clock client start wait n e.waits ∙ wait_done clock client wait n t e.told_is e.moves
 
 -- what the world is after such an end
-pub ended_so : (clock client start asked : ℕ) (wait : ClientWait) (n : Normal) (t : Told) (answer : Answer) (bytes : List ℕ) (left : List ClientState) → Ends clock client start wait n t
+pub ended_so : (clock client start asked : ℕ) (wait : ClientWait) (n : Normal) (t : DriverOutcome) (answer : Answer) (bytes : List ℕ) (left : List ClientState) → Ends clock client start wait n t
     → start ≡ asked → answer ≡ ended_answer wait.cancelled t.answer → bytes ≡ t.memory → left ≡ map_at (client_changed client_running) n.clients client
     → Some (record { answer = answer; normal = parts bytes t.driver left }) ≡ client_resumed clock client asked n
 ended_so clock client start asked wait n t answer bytes left e same answer_is bytes_is left_is =
@@ -165,21 +166,21 @@ ended_so clock client start asked wait n t answer bytes left e same answer_is by
     ap (λ (xs : List ℕ). after xs left answer) bytes_is ∙ ap (λ (cs : List ClientState). after t.memory cs answer) left_is ∙ ap (λ (x : Answer). after t.memory again x) answer_is
     ∙ sym (ends_done clock client start wait n t e) ∙ ap (λ (k : ℕ). client_resumed clock client k n) same
 
-pub ended_fits : (clock client start : ℕ) (wait : ClientWait) (n : Normal) (t : Told) → Ends clock client start wait n t → All IsInboxWithin n.driver.connections
-    → Fits full_room (run_again client n (with_ended wait.cancelled t))
+pub ended_fits : (clock client start : ℕ) (wait : ClientWait) (n : Normal) (t : DriverOutcome) → Ends clock client start wait n t → All IsInboxWithin n.driver.connections
+    → FitsRoom full_room (run_again client n (with_ended wait.cancelled t))
 ended_fits clock client start wait n t e inboxes =
     resumed_fits clock client start n (run_again client n (with_ended wait.cancelled t)) inboxes (ends_done clock client start wait n t e)
 
-told_adds : (client : ℕ) (on : ClientWaitOn) (memory : List ℕ) (d : Driver) (t : Told) → option_map told (acted client (Some on) None (bare memory d)) ≡ Some t
+told_adds : (client : ℕ) (on : ClientWaitOn) (memory : List ℕ) (d : Driver) (t : DriverOutcome) → option_map told (acted client (Some on) None (bare memory d)) ≡ Some t
     → length t.driver.connections ≤ length d.connections
 told_adds client on memory d t is =
     let b : Acted = resumed_by on (bare memory d) in
     let there : Some (told b) ≡ Some t = is in
     let same : told b ≡ t = cc in
-    omega (arith, (wait_adds on (bare memory d)).few, ap (λ (x : Told). length x.driver.connections) same)
+    omega (arith, (wait_adds on (bare memory d)).few, ap (λ (x : DriverOutcome). length x.driver.connections) same)
 
 pub ended_keeps : (clock client start : ℕ) (wait : ClientWait) (own : Option ClientWaitOn) (bytes : List ℕ) (d : Driver) (ons : List (Option ClientWaitOn)) (clients : List ClientState)
-    (count : ℕ) (t : Told) (now : List (Option ClientWaitOn)) → IsKept bytes d ons clients count → Ends clock client start wait (parts bytes d clients) t
+    (count : ℕ) (t : DriverOutcome) (now : List (Option ClientWaitOn)) → IsKept bytes d ons clients count → Ends clock client start wait (parts bytes d clients) t
     → length t.memory ≡ length bytes → now ≡ slice_set ons client own → IsKept t.memory t.driver now (map_at (client_changed client_running) clients client) count
 ended_keeps clock client start wait own bytes d ons clients count t now k e long now_is =
     let here : AreAwaited (map_at (client_changed client_running) clients client) (slice_set ons client own) = resumed_awaited clients ons client own k.waits in

@@ -14,14 +14,13 @@ use Rattle.kernel_values.specs.declared.state.Thread.{Thread}
 use Rattle.kernel_values.specs.declared.world.ClientState.{ClientState}
 use Rattle.kernel_values.specs.declared.world.Device.{Device}
 use Rattle.kernel_values.specs.declared.world.World.{World}
-use Rattle.kernel_types.specs.Built.{is_built}
 use Rattle.kernel_types.specs.CoreStep.{core_begin, core_resume, status_of}
 use Rattle.kernel_types.specs.Facts.{is_client, status_at}
 use Rattle.kernel_types.specs.History.{entry_of, state_or}
 use Rattle.kernel_types.specs.Kernel.{CauseHolds, Did, Refused, status_for, step_limit}
 use Rattle.kernel_types.specs.Limits.{FitsIn, full_room, no_room, room_of}
 use Rattle.kernel_types.specs.Outcome.{Outcome}
-use Rattle.kernel_types.specs.Step.{Stepped, begin, client_status, full_step, in_world, statuses, step}
+use Rattle.kernel_types.specs.Step.{Stepped, begin, client_status, step, in_world, statuses}
 use Rattle.kernel_types.specs.declared.kernel.StepCause.{StepCause}
 use Rattle.kernel_types.specs.declared.kernel.StepCause.TheVariants.{NotMovable, Full, NoMemory}
 use Rattle.kernel_types.specs.declared.kernel.StepRefused.{StepRefused}
@@ -41,7 +40,7 @@ moved_in v w (Some outcome) = refl
 
 thread_step : (c : CoreState) (v w : World) (e : Event) → IsOfThread (length c.threads) e
     → step (record { core = c; world = w }) e ≡ option_map (moved w) (step (record { core = c; world = v }) e)
-unfolding step full_step
+unfolding step
 thread_step c v w (event.Begin actor start asked) of =
     let s : State = record { core = c; world = w } in
     let t : State = record { core = c; world = v } in

@@ -100,12 +100,12 @@ short_timeout (call.Wait handle timeout) short = short
 short_timeout (call.WaitAny timeout) short = short
 short_timeout _ short = tt
 
-pub record Keeps (clock : ℕ) (outcome : Outcome) : Type 0 where
+pub record StaysInTime (clock : ℕ) (outcome : Outcome) : Type 0 where
   pub kept : IsTimely clock outcome.core
 
 abbrev pub KeepsIf : ℕ → Option Outcome → Type 0
 KeepsIf clock None = Unit {0}
-KeepsIf clock (Some outcome) = Keeps clock outcome
+KeepsIf clock (Some outcome) = StaysInTime clock outcome
 
 module _ (clock : ℕ) where
   pub calm_keeps : (c d : CoreState) → Calm c d → IsTimely clock c → IsTimely clock d

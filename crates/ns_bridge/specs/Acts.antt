@@ -16,13 +16,13 @@ use Rattle.kernel_values.specs.declared.world.ClientState.{ClientState}
 use Rattle.kernel_values.specs.declared.world.ClientWait.{ClientWait}
 use Rattle.kernel_values.specs.declared.world.Device.{Device}
 use Rattle.kernel_values.specs.declared.world.Driver.{Driver}
-use Rattle.kernel_types.specs.Built.{is_built}
-use Rattle.kernel_types.specs.Clients.{client_changed, client_ended, client_running, drains}
+use Rattle.kernel_types.specs.Clients.{client_changed, client_ended, client_running}
+use Rattle.kernel_values.specs.CallKinds.{drains}
 use Rattle.kernel_types.specs.Objects.{map_at}
 use Rattle.kernel_types.specs.Outcome.{no_seqs}
 use Rattle.kernel_types.specs.Step.{Stepped}
 use Rattle.kernel_types.specs.Waits.{is_due}
-use Rattle.ns_driver.specs.Acts.{Told, acted, awaited, bare, has_answer, told, wait_if}
+use Rattle.ns_driver.specs.Acts.{DriverOutcome, acted, awaited, bare, has_answer, told, wait_if}
 use Rattle.ns_driver.specs.Worlds.{clients_with, deadline_after}
 use Rattle.ns_bridge.specs.Parts.{Normal, state_of, with_clients}
 
@@ -39,7 +39,7 @@ abbrev pub answered_if : Option Answer → Normal → Option Answered
 answered_if None n = None
 answered_if (Some answer) n = Some (record { answer = answer; normal = n })
 
-abbrev pub with_told : List ClientState → Told → Answered
+abbrev pub with_told : List ClientState → DriverOutcome → Answered
 with_told clients t = record { answer = t.answer; normal = record { memory = t.memory; driver = t.driver; clients = clients } }
 
 -- what a client does
@@ -51,7 +51,7 @@ activity_at clients client = option_map (λ state. state.activity) (slice_get cl
 abbrev pub clients_called : ℕ → ℕ → Call → Normal → Answer → List ClientState
 clients_called clock client asked n answer = clients_with client (deadline_after clock asked) (wait_if (awaited n.driver asked) answer) n.clients
 
-abbrev pub call_told : ℕ → ℕ → Call → Normal → Told → Answered
+abbrev pub call_told : ℕ → ℕ → Call → Normal → DriverOutcome → Answered
 call_told clock client asked n t = with_told (clients_called clock client asked n t.answer) t
 
 unfoldable pub asked_of_driver : ℕ → ℕ → Call → Normal → Option Answered
@@ -90,17 +90,17 @@ abbrev pub is_over : Bool → Bool → Answer → Bool
 is_over cancelled due answer.Waits = cancelled || due
 is_over cancelled due other = true
 
-abbrev pub with_ended : Bool → Told → Told
+abbrev pub with_ended : Bool → DriverOutcome → DriverOutcome
 with_ended cancelled t = record t { answer = ended_answer cancelled t.answer }
 
-abbrev pub ended_told : Bool → Bool → Told → Option Told
+abbrev pub ended_told : Bool → Bool → DriverOutcome → Option DriverOutcome
 ended_told cancelled due t = (if is_over cancelled due t.answer then Some (with_ended cancelled t) else None)
 
-abbrev pub told_if : Bool → Bool → Option Told → Option Told
+abbrev pub told_if : Bool → Bool → Option DriverOutcome → Option DriverOutcome
 told_if cancelled due None = None
 told_if cancelled due (Some t) = ended_told cancelled due t
 
-abbrev pub run_again : ℕ → Normal → Told → Answered
+abbrev pub run_again : ℕ → Normal → DriverOutcome → Answered
 run_again client n t = with_told (map_at (client_changed client_running) n.clients client) t
 
 unfoldable pub wait_ended : ℕ → ℕ → ClientWait → Normal → Option Answered

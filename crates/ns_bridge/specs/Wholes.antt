@@ -8,7 +8,7 @@ use Rattle.kernel_values.specs.declared.state.State.{State}
 use Rattle.kernel_values.specs.declared.world.ClientState.{ClientState}
 use Rattle.kernel_types.specs.Step.{client_status, has_begun_and_goes_on, is_running}
 
-pub record Standing : Type 0 where
+pub record KernelValue : Type 0 where
   pub state : State
   pub made : ℕ
 

@@ -37,9 +37,9 @@ pub struct Kernel<C: Core + Drop> {
 impl<C: Core + Drop> Model for Kernel<C> {
     ghost use Rattle.ns_bridge.specs.Parts.{state_of};
     ghost use Rattle.ns_bridge.specs.Timely.{IsOnTime};
-    ghost use Rattle.ns_bridge.specs.Wholes.{IsWhole, Standing};
+    ghost use Rattle.ns_bridge.specs.Wholes.{IsWhole, KernelValue};
 
-    ghost Value = { Standing };
+    ghost Value = { KernelValue };
 
     ghost view = { λ k. record { state = state_of (C.state k.bridge.core).core k.bridge.device k.normal; made = k.made } };
 

@@ -1,7 +1,8 @@
 //! Whether an event is lawful, by the kind of call and by what its actor does.
 
 ghost use Rattle.std.specs.Prelude.{◌≡◌};
-ghost use Rattle.ns_bridge.specs.Lawful.{is_of_client, is_of_thread, is_running_as, is_waiting_as, makes};
+ghost use Rattle.ns_bridge.specs.Lawful.{is_running_as, is_waiting_as, makes};
+ghost use Rattle.kernel_values.specs.CallKinds.{is_of_client, is_of_thread};
 ghost use Rattle.ns_bridge.specs.Timely.{IsShort, IsShortCall, IsShortEvent};
 
 use kernel_values::{ActorStatus, Call, Event, Timeout};

@@ -3,15 +3,14 @@
 ghost use Rattle.std.specs.Prelude.{◌≡◌, ◌<◌, ◌≤◌, ◌+◌, length, map, slice_set, Some, IfOk, IfNone, IfSome, IsTrue, OnErr, true};
 ghost use Rattle.std.specs.List.{All, list_any};
 ghost use Rattle.std.specs.Option.{is_some, option_map};
-ghost use Rattle.kernel_types.specs.Built.{is_built};
-ghost use Rattle.kernel_types.specs.Clients.{drains};
+ghost use Rattle.kernel_values.specs.CallKinds.{drains};
 ghost use Rattle.kernel_types.specs.GuestMemory.{blank_memory, opening_memory};
 ghost use Rattle.kernel_types.specs.Kernel.{step_limit};
 ghost use Rattle.kernel_types.specs.Limits.{FitsIn, IsInboxWithin, full_room, room_by, room_of_call};
 ghost use Rattle.kernel_types.specs.Opening.{opening_client, opening_driver};
 ghost use Rattle.kernel_types.specs.Step.{client_status, least_client_deadline};
 ghost use Rattle.ns_driver.specs.Acts.{HasRoom};
-ghost use Rattle.ns_driver.specs.Standing.{wait_of};
+ghost use Rattle.ns_driver.specs.Value.{wait_of};
 ghost use Rattle.ns_driver.specs.Worlds.{clients_with, deadline_after};
 ghost use Rattle.ns_device.specs.Steps.{Stepped};
 ghost use Rattle.ns_device.specs.Worlds.{device_left};
@@ -28,7 +27,7 @@ use kernel_values::{
     ActorStatus, Answer, Call, Client, ClientActivity, ClientState, ClientWait, Copied, Errno,
     Event, Items, NoMemory, Reply,
 };
-use ns_device::{Bridge, Told};
+use ns_device::{Bridge, DeviceOutcome};
 use ns_driver::Driver;
 use std::alloc::{AllocError, Global};
 use std::marker::Model;
@@ -401,7 +400,7 @@ impl NormalWorld {
     pub fn step_device<C: Core + Drop>(
         &mut self,
         bridge: &mut Bridge<C>,
-    ) -> Result<Option<Told>, NoMemory>
+    ) -> Result<Option<DeviceOutcome>, NoMemory>
         requires below { C.made bridge.old.core < step_limit }
         ensures done { IfOk result (λ told. Stepped told (C.state bridge.old.core) (C.state bridge.new.core) self.old.memory self.new.memory bridge.old.device bridge.new.device) }
         ensures driver { self.new.driver ≡ self.old.driver }

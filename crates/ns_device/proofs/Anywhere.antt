@@ -11,7 +11,7 @@ use Rattle.virtqueue.specs.declared.queue.RingFault.{RingFault}
 use Rattle.virtqueue.specs.Bytes.{bytes_at, room}
 use Rattle.virtqueue.specs.Chains.{chain}
 use Rattle.kernel_types.specs.Device.{Due, DeviceStep, Taken, broke, device_step, due_frame, due_of, has_device, ring_broke, send_due, sent_by_device, step_by_due, take_frame, take_next, take_step, taken_by_device}
-use Rattle.kernel_types.specs.Step.{Stepped, device_has_work, device_stepped, full_step}
+use Rattle.kernel_types.specs.Step.{Stepped, device_has_work, device_stepped, step}
 use Rattle.ns_device.specs.Worlds.{DeviceStepsAnywhere, DeviceWorksAnywhere, Left, bare, device_left, left, left_in}
 
 module _ (s : State) where
@@ -63,7 +63,7 @@ module _ (s : State) where
       (same_if (not s.world.device.broken) (step_by_due s due) None (step_by_due alone due) None (due_same due) refl)
 
 pub device_anywhere : DeviceStepsAnywhere
-unfolding full_step device_left
+unfolding step device_left
 device_anywhere s there = step_same s there
 
 -- which states have work
@@ -85,7 +85,7 @@ no_client s none =
     subst (λ b. is_some (cond (b && not s.world.device.broken) (step_by_due s (due_of s.core s.world.device)) None) ≡ false) (sym none) refl
 
 pub works_anywhere : DeviceWorksAnywhere
-unfolding device_has_work full_step
+unfolding device_has_work step
 works_anywhere s =
     let l : Option Left = device_left s.core s.world.memory s.world.device in
     let P : Bool → Type 0 = λ b. has_device s.world.clients ≡ b → is_some (device_step s) ≡ (b && is_some l) in

@@ -28,7 +28,7 @@ use Rattle.kernel_types.specs.Messages.{blocked_end, deliver, free_id, get_messa
 use Rattle.kernel_types.specs.Objects.{end_changed, end_of}
 use Rattle.kernel_types.specs.Outcome.{Outcome, gives_with, refuses, sent_seq}
 use Rattle.kernel_types.specs.Ports.{admits}
-use Rattle.kernel_types.specs.Step.{Stepped, beside_core, client_begin, client_number, client_resume, device_stepped, full_step, idle, idle_lawful, in_world, is_built_event, is_thread, next_deadline, step}
+use Rattle.kernel_types.specs.Step.{Stepped, beside_core, client_begin, client_number, client_resume, device_stepped, step, idle, idle_lawful, in_world, is_thread, next_deadline}
 use Rattle.kernel_types.specs.Sweep.{sweep}
 use Rattle.step_laws.proofs.BridgeLeaving.{marked_leaves, push_leaves, take_leaves}
 use Rattle.step_laws.proofs.Leaving.{sweep_leaves}
@@ -55,32 +55,28 @@ device_names s none =
     let off : has_device s.world.clients ≡ false = ap has_device none in
     subst (λ b. IfNames s.core.bridged (option_map device_stepped (cond (b && not s.world.device.broken) found None))) (sym off) tt
 
-full_step_names : (s : State) → s.world.clients ≡ [] → (ev : Event) → IfNames s.core.bridged (full_step s ev)
-unfolding full_step
-full_step_names s none (event.Begin actor start asked) =
+step_names : (s : State) → s.world.clients ≡ [] → (ev : Event) → IfNames s.core.bridged (step s ev)
+unfolding step
+step_names s none (event.Begin actor start asked) =
     let one : Option Outcome = core_begin s.core actor.0 start asked in
     let other : Option Acted = client_begin s (client_number s actor.0) start asked in
     elim (is_thread s actor.0) as (λ b. IfNames s.core.bridged (cond b (option_map (in_world s.world) one) (option_map (beside_core s.core) other))) [
       | true ↦ thread_names s.core s.world one (begin_leaves s.core actor.0 start asked)
       | false ↦ client_names s.core other
     ]
-full_step_names s none (event.Resume actor start) =
+step_names s none (event.Resume actor start) =
     let one : Option Outcome = core_resume s.core actor.0 start in
     let other : Option Acted = client_resume s (client_number s actor.0) start in
     elim (is_thread s actor.0) as (λ b. IfNames s.core.bridged (cond b (option_map (in_world s.world) one) (option_map (beside_core s.core) other))) [
       | true ↦ thread_names s.core s.world one (resume_leaves s.core actor.0 start)
       | false ↦ client_names s.core other
     ]
-full_step_names s none event.Device = device_names s none
-full_step_names s none event.Idle =
+step_names s none event.Device = device_names s none
+step_names s none event.Idle =
     elim (idle_lawful s) as (λ b. IfNames s.core.bridged (cond b (Some (idle s)) None)) [
       | true ↦ (sweep_leaves (core_idle (next_deadline s) s.core)).bridged ∙ idle_leaves s.core (next_deadline s)
       | false ↦ tt
     ]
-
-step_names : (s : State) → s.world.clients ≡ [] → (ev : Event) → IfNames s.core.bridged (step s ev)
-unfolding step
-step_names s none ev = elim (is_built_event ev) as (λ b. IfNames s.core.bridged (cond b (full_step s ev) None)) [ true ↦ full_step_names s none ev | false ↦ tt ]
 
 stepped_names : (ends : List ℕ) (o : Option Stepped) (r : Stepped) → o ≡ Some r → IfNames ends o → r.state.core.bridged ≡ ends
 stepped_names ends None r is names = absurd (cc)

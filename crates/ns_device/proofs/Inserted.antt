@@ -14,7 +14,7 @@ use Rattle.kernel_types.specs.Bridging.{Connected}
 use Rattle.kernel_types.specs.Device.{free_secure, new_entry, request_connected, with_entry}
 use Rattle.kernel_types.specs.Objects.{map_at, set_if}
 use Rattle.kernel_types.specs.Outcome.{no_seqs}
-use Rattle.ns_device.specs.declared.told.Told.{Told}
+use Rattle.ns_device.specs.declared.told.DeviceOutcome.{DeviceOutcome}
 use Rattle.ns_device.specs.Taken.{taken_as, with_end}
 
 got_between : {X : Type 0} (front back : List X) (x : X) → slice_get (front ++ x ∷ back) (length front) ≡ Some x
@@ -53,7 +53,7 @@ pub connect_is : (s t : State) (d : Device) (src end secure place made remade : 
 connect_is s t d src end secure place made remade path entries after secure-is entries-is place-is after-is connected =
     let free : ℕ = free_secure d.entries in
     let front : ℕ = position_or_len (λ other. nat_lt free other.secure) d.entries in
-    let told : Told = record { reply = reply.TookReq src path; seqs = no_seqs } in
+    let told : DeviceOutcome = record { reply = reply.TookReq src path; seqs = no_seqs } in
     let place-there : place ≡ front = place-is ∙ ap (λ (n : ℕ). position_or_len (λ other. nat_lt n other.secure) d.entries) secure-is in
     let entries-there : entries ≡ with_entry (new_entry free src 0) d.entries = entries-is ∙ ap (λ (n : ℕ). with_entry (new_entry n src 0) d.entries) secure-is in
     let after-there : after ≡ with_entry (new_entry free src s.core.next) d.entries =

@@ -41,17 +41,17 @@ use Rattle.kernel_types.specs.History.{entry_of, state_or}
 use Rattle.kernel_types.specs.Kernel.{Did, Refused}
 use Rattle.kernel_types.specs.declared.kernel.StepRefused.{StepRefused}
 use Rattle.kernel_types.specs.Sending.{control_address}
-use Rattle.kernel_types.specs.Step.{Stepped as StepDone, device_stepped, full_step, step}
+use Rattle.kernel_types.specs.Step.{Stepped as StepDone, device_stepped, step}
 use Rattle.kernel_types.specs.Sweep.{sweep}
 use Rattle.set_laws.specs.Soundness.{NamesAreGiven}
 use Rattle.step_laws.proofs.Steps.{StepWalks, step_walks}
 use Rattle.set_laws.proofs.Naming.{Given}
 use Rattle.set_laws.proofs.NamingChanges.{walk_names}
 use Rattle.set_laws.proofs.Soundness.{apart, steps_keep_given, together}
-use Rattle.ns_device.specs.declared.told.Told.{Told}
+use Rattle.ns_device.specs.declared.told.DeviceOutcome.{DeviceOutcome}
 use Rattle.ns_device.specs.Named.{AreNamed, IsAmong}
 use Rattle.ns_device.specs.Owing.{first_due}
-use Rattle.ns_device.specs.Standing.{IsQueueOf, IsSound}
+use Rattle.ns_device.specs.Value.{IsQueueOf, IsSound}
 use Rattle.ns_device.specs.Steps.{Stepped}
 use Rattle.ns_device.specs.Worlds.{Left, bare, device_left, left}
 use Rattle.ns_device.proofs.Bridging.{connect_names, drop_names, idle_names, push_names, steps_keep_bridge, take_names}
@@ -113,14 +113,14 @@ due_of_entries c d =
 
 -- A device whose entries are named stays so, and keeps its queues.
 
-record Fits (c : CoreState) (d : Device) : Type 0 where
+record FitsDevice (c : CoreState) (d : Device) : Type 0 where
   fits_to : IsQueueOf 0 d.to_normal
   fits_from : IsQueueOf 1 d.from_normal
   fits_named : AreNamed c.bridged d.entries
 
 abbrev FitsLeft : Option DeviceStep → Type 0
 FitsLeft None = Unit {0}
-FitsLeft (Some done) = Fits done.state.core done.state.world.device
+FitsLeft (Some done) = FitsDevice done.state.core done.state.world.device
 
 queue_on : (index : ℕ) (q : Queue) → IsQueueOf index q → IsQueueOf index (queue_after q)
 queue_on index q is = record { queue = record { index = is.queue.index; low = is.queue.low; high = is.queue.high }; index_is = is.index_is }
@@ -290,7 +290,7 @@ given_left s names None walks = tt
 given_left s names (Some done) walks = walk_names s.core done.state.core walks names
 
 device_given : (s : State) → Given s.core → GivenLeft (device_step s)
-unfolding step full_step
+unfolding step
 device_given s names = given_left s names (device_step s) (step_walks s event.Device)
 
 abbrev SoundLeft : Option Left → Type 0
@@ -310,13 +310,13 @@ sound_left : (c : CoreState) (memory : List ℕ) (d : Device) → IsSound c d �
 unfolding device_left
 sound_left c memory d sound = both_left (device_step (bare c memory d)) (step_fits c d sound memory) (device_given (bare c memory d) (apart c sound.given))
 
-sound_told : (d : Device) (told : Option Told) (s t : State) (memory after : List ℕ) (e : Device) → IsSound s.core d → Stepped told s t memory after d e → IsSound t.core e
+sound_told : (d : Device) (told : Option DeviceOutcome) (s t : State) (memory after : List ℕ) (e : Device) → IsSound s.core d → Stepped told s t memory after d e → IsSound t.core e
 sound_told d None s t memory after e sound done =
     subst (λ (x : Device). IsSound t.core x) (sym done.stays.2) (subst (λ (x : State). IsSound x.core d) (sym done.stays.0) sound)
 sound_told d (Some told) s t memory after e sound done = subst SoundLeft (sym done.left_is) (sound_left s.core memory d sound)
 
 -- a step that may be refused
-pub sound_stepped : (r : Result (Option Told) NoMemory) (s t : State) (memory after : List ℕ) (d e : Device) → IsSound s.core d
+pub sound_stepped : (r : Result (Option DeviceOutcome) NoMemory) (s t : State) (memory after : List ℕ) (d e : Device) → IsSound s.core d
     → IfOk r (λ told. Stepped told s t memory after d e) → OnErr r (t ≡ s) → OnErr r (e ≡ d) → IsSound t.core e
 sound_stepped (Ok told) s t memory after d e sound done state device = sound_told d told s t memory after e sound done
 sound_stepped (Err why) s t memory after d e sound done state device =

@@ -3,7 +3,7 @@ pub mod Entries
 pub mod Named
 pub mod Owing
 pub mod Sends
-pub mod Standing
+pub mod Value
 pub mod Steps
 pub mod Taken
 pub mod Taking

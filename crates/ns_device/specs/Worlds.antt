@@ -12,8 +12,8 @@ use Rattle.kernel_values.specs.declared.world.Device.{Device}
 use Rattle.kernel_values.specs.declared.world.World.{World}
 use Rattle.kernel_types.specs.Device.{DeviceStep, device_step, has_device}
 use Rattle.kernel_types.specs.Opening.{opening_driver}
-use Rattle.kernel_types.specs.Step.{Stepped, device_has_work, full_step}
-use Rattle.ns_device.specs.declared.told.Told.{Told}
+use Rattle.kernel_types.specs.Step.{Stepped, device_has_work, step}
+use Rattle.ns_device.specs.declared.told.DeviceOutcome.{DeviceOutcome}
 
 -- this core, memory and device, with some driver and one client; nothing that the device does depends on these
 abbrev pub bare : CoreState → List ℕ → Device → State
@@ -38,7 +38,7 @@ unfoldable pub device_left : CoreState → List ℕ → Device → Option Left
 device_left c memory d = option_map left (device_step (bare c memory d))
 
 -- what was told, with what is there afterwards
-abbrev pub told_of : CoreState → List ℕ → Device → Told → Left
+abbrev pub told_of : CoreState → List ℕ → Device → DeviceOutcome → Left
 told_of c memory d told = record { reply = told.reply; seqs = told.seqs; core = c; memory = memory; device = d }
 
 -- the same step in a world: its driver and its clients stay
@@ -51,7 +51,7 @@ left_in w l = record {
 
 abbrev pub DeviceStepsAnywhere : Type 0
 DeviceStepsAnywhere = (s : State) → IsTrue (has_device s.world.clients)
-    → full_step s event.Device ≡ option_map (left_in s.world) (device_left s.core s.world.memory s.world.device)
+    → step s event.Device ≡ option_map (left_in s.world) (device_left s.core s.world.memory s.world.device)
 
 abbrev pub DeviceWorksAnywhere : Type 0
 DeviceWorksAnywhere = (s : State) → device_has_work s ≡ (has_device s.world.clients && is_some (device_left s.core s.world.memory s.world.device))

@@ -7,7 +7,7 @@ ghost use Rattle.kernel_types.specs.Outcome.{no_seqs};
 ghost use Rattle.ns_device.specs.Named.{AreNamed};
 ghost use Rattle.ns_device.specs.Beside.{Becomes};
 
-use crate::told::{Told, tells};
+use crate::told::{DeviceOutcome, tells};
 use kernel_types::Core;
 use kernel_values::{BreakCause, BridgeEntry, Device, DeviceReply, Items, ObjId};
 use virtqueue::RingFault;
@@ -58,7 +58,7 @@ fn drop_ends<C: Core>(core: &mut C, entries: &[BridgeEntry])
 }
 
 /// The device breaks: its entries and refusals go.
-pub fn break_down<C: Core>(core: &mut C, device: &mut Device, reply: DeviceReply) -> Told
+pub fn break_down<C: Core>(core: &mut C, device: &mut Device, reply: DeviceReply) -> DeviceOutcome
     requires { AreNamed (C.state core.old).core.bridged device.old.entries }
     ensures told { result ≡ record { reply = reply; seqs = no_seqs } }
     ensures core { Becomes (fold entry_dropped (C.state core.old).core device.old.entries) (C.state core.old) (C.state core.new) }

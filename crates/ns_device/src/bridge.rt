@@ -11,7 +11,7 @@ ghost use Rattle.ns_device.specs.Steps.{Stepped};
 ghost use Rattle.ns_device.specs.Worlds.{device_left};
 
 use crate::steps::{has_work, step};
-use crate::told::Told;
+use crate::told::DeviceOutcome;
 use kernel_types::{Core, StepCause, StepRefused};
 use kernel_values::{Device, Entry, Event, Items, NoMemory};
 use std::alloc::Global;
@@ -26,9 +26,9 @@ pub struct Bridge<C: Core + Drop> {
 }
 
 impl<C: Core + Drop> Model for Bridge<C> {
-    ghost use Rattle.ns_device.specs.Standing.{IsSound, Standing, standing_code};
+    ghost use Rattle.ns_device.specs.Value.{IsSound, BridgeValue, standing_code};
 
-    ghost Value = { Standing C };
+    ghost Value = { BridgeValue C };
 
     ghost coded = { standing_code C.code };
 
@@ -109,7 +109,7 @@ impl<C: Core + Drop> Bridge<C> {
 
     /// One step of the device: what is due goes out, or the next frame of the normal world is taken. Nothing where the device has
     /// no work. Refused for want of memory, all stands as before.
-    pub fn step(&mut self, mem: &mut [u8]) -> Result<Option<Told>, NoMemory>
+    pub fn step(&mut self, mem: &mut [u8]) -> Result<Option<DeviceOutcome>, NoMemory>
         requires memory { length mem.old ≡ MEMORY_SIZE }
         requires below { C.made self.old.core < step_limit }
         ensures done { IfOk result (λ told. Stepped told (C.state self.old.core) (C.state self.new.core) mem.old mem.new self.old.device self.new.device) }

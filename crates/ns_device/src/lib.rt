@@ -18,4 +18,4 @@ mod told;
 
 pub use crate::bridge::Bridge;
 pub use crate::laws::{device_steps_anywhere, device_works_anywhere};
-pub use crate::told::Told;
+pub use crate::told::DeviceOutcome;

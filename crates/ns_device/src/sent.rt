@@ -16,7 +16,7 @@ ghost use Rattle.ns_device.specs.Worlds.{bare, left, told_of};
 use crate::breaking::break_down;
 use crate::due::Owed;
 use crate::sends::{device_after, owed_frame};
-use crate::told::{Told, no_seqs};
+use crate::told::{DeviceOutcome, no_seqs};
 use kernel_types::Core;
 use kernel_values::{BreakCause, Device, DeviceReply, NoMemory, ObjId, Seqs};
 use virtqueue::{Chain, MEMORY_SIZE, chain_len, push_used, write_chain};
@@ -64,7 +64,7 @@ pub fn send<C: Core>(
     device: &mut Device,
     owed: &Owed,
     chain: &Chain,
-) -> Result<Told, NoMemory>
+) -> Result<DeviceOutcome, NoMemory>
     requires memory { length mem.old ≡ MEMORY_SIZE }
     requires queue { IsQueue device.old.to_normal }
     requires parts { All IsWithin chain.now.parts }
@@ -93,7 +93,7 @@ pub fn send<C: Core>(
     );
     *device = after;
     let seqs = settle(core, owed);
-    Ok(Told {
+    Ok(DeviceOutcome {
         reply: sending.reply,
         seqs,
     })

@@ -6,7 +6,7 @@ ghost use Rattle.std.specs.Option.{is_some, option_map};
 ghost use Rattle.virtqueue.specs.Bytes.{IsWithin, bytes_at};
 ghost use Rattle.kernel_types.specs.Device.{take_chain, take_step};
 ghost use Rattle.kernel_types.specs.Kernel.{step_limit};
-ghost use Rattle.ns_device.specs.Standing.{IsSound};
+ghost use Rattle.ns_device.specs.Value.{IsSound};
 ghost use Rattle.ns_device.specs.Steps.{Done, Stepped};
 ghost use Rattle.ns_device.specs.Worlds.{bare, device_left, left};
 
@@ -15,7 +15,7 @@ use crate::due::due_of;
 use crate::sent::send;
 use crate::taken::carry_out;
 use crate::taking::{Taking, frame_taking};
-use crate::told::Told;
+use crate::told::DeviceOutcome;
 use kernel_types::Core;
 use kernel_values::{Device, NoMemory};
 use virtqueue::{Chain, MEMORY_SIZE, next_chain, push_used};
@@ -27,7 +27,7 @@ fn take_chain<C: Core>(
     mem: &mut [u8],
     device: &mut Device,
     chain: &Chain,
-) -> Result<Option<Told>, NoMemory>
+) -> Result<Option<DeviceOutcome>, NoMemory>
     requires memory { length mem.old ≡ MEMORY_SIZE }
     requires parts { All IsWithin chain.now.parts }
     requires head { chain.now.head < device.old.from_normal.n }
@@ -58,7 +58,7 @@ fn take<C: Core>(
     core: &mut C,
     mem: &mut [u8],
     device: &mut Device,
-) -> Result<Option<Told>, NoMemory>
+) -> Result<Option<DeviceOutcome>, NoMemory>
     requires memory { length mem.old ≡ MEMORY_SIZE }
     requires sound { IsSound (C.state core.old).core device.old }
     requires below { C.made core.old < step_limit }
@@ -84,7 +84,7 @@ pub fn step<C: Core>(
     core: &mut C,
     mem: &mut [u8],
     device: &mut Device,
-) -> Result<Option<Told>, NoMemory>
+) -> Result<Option<DeviceOutcome>, NoMemory>
     requires memory { length mem.old ≡ MEMORY_SIZE }
     requires sound { IsSound (C.state core.old).core device.old }
     requires below { C.made core.old < step_limit }

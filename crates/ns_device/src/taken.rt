@@ -15,7 +15,7 @@ ghost use Rattle.ns_device.specs.Taking.{IsTakeable, taken_by};
 use crate::entries::without_entry;
 use crate::requests::request;
 use crate::taking::Taking;
-use crate::told::{Told, tells};
+use crate::told::{DeviceOutcome, tells};
 use kernel_types::Core;
 use kernel_values::{BridgeEntry, Bytes, Device, DeviceReply, Items, NoMemory, ObjId, Seqs};
 use std::alloc::Global;
@@ -57,7 +57,7 @@ fn leave<C: Core>(
     device: &mut Device,
     src: u32,
     entry: BridgeEntry,
-) -> Result<Told, NoMemory>
+) -> Result<DeviceOutcome, NoMemory>
     requires { IsBridged entry.end (C.state core.old) }
     ensures done { IfOk result (λ told. taken_as (C.state core.new).core device.new told ≡ leave_taken (C.state core.old).core device.old src (Some entry)) }
     ensures world { (C.state core.new).world ≡ (C.state core.old).world }
@@ -82,7 +82,7 @@ fn carry<C: Core>(
     dst: u32,
     end: u64,
     bytes: &Bytes,
-) -> Result<Told, NoMemory>
+) -> Result<DeviceOutcome, NoMemory>
     requires named { IsBridged end (C.state core.old) }
     requires room { CanPush end bytes.now (C.state core.old) }
     requires below { C.made core.old < step_limit }
@@ -98,7 +98,7 @@ fn carry<C: Core>(
         return Err(NoMemory);
     };
     let sent = core.ns_push(ObjId(end), bytes)?;
-    Ok(Told {
+    Ok(DeviceOutcome {
         reply: DeviceReply::TookMessage { src, dst, len },
         seqs: Seqs {
             sent: Some(sent),
@@ -114,7 +114,7 @@ fn ask<C: Core>(
     device: &mut Device,
     src: u32,
     path: &PathName,
-) -> Result<Told, NoMemory>
+) -> Result<DeviceOutcome, NoMemory>
     requires { C.made core.old < step_limit }
     ensures done { IfOk result (λ told. taken_as (C.state core.new).core device.new told ≡ request_taken (C.state core.old).core device.old src path.now) }
     ensures world { (C.state core.new).world ≡ (C.state core.old).world }
@@ -136,7 +136,7 @@ pub fn carry_out<C: Core>(
     device: &mut Device,
     chain: &Chain,
     taking: Taking,
-) -> Result<Option<Told>, NoMemory>
+) -> Result<Option<DeviceOutcome>, NoMemory>
     requires memory { length mem.now ≡ MEMORY_SIZE }
     requires parts { All IsWithin chain.now.parts }
     requires ready { IsTakeable (C.state core.old) (drop 16 (bytes_at chain.now.parts mem.now)) taking }

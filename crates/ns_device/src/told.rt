@@ -7,7 +7,7 @@ use kernel_values::{DeviceReply, Seqs};
 
 /// What a step of the device did, and which messages it sent, opened and retired.
 #[derive(Debug, Drop)]
-pub struct Told {
+pub struct DeviceOutcome {
     pub reply: DeviceReply,
     pub seqs: Seqs,
 }
@@ -24,10 +24,10 @@ pub fn no_seqs() -> Seqs
 }
 
 /// A step that moved no message.
-pub fn tells(reply: DeviceReply) -> Told
+pub fn tells(reply: DeviceReply) -> DeviceOutcome
     ensures { result ≡ record { reply = reply; seqs = no_seqs } }
 {
-    Told {
+    DeviceOutcome {
         reply,
         seqs: no_seqs(),
     }

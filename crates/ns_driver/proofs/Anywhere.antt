@@ -24,7 +24,7 @@ use Rattle.kernel_values.specs.declared.world.World.{World}
 use Rattle.kernel_types.specs.Clients.{Acted, ns_refuses, ns_waits, send_by, send_frame, next_address, asks, counts, shuts, send_limit, send_on, send_by_status, own_connection, owned_by, close_on, close_by_status, receive_on, receive_or_wait, receive_from, is_asked, is_closed, connect_answer, connect_answer_of, receive_answer, ns_connect_call, ns_send_call, ns_recv_call, ns_close_call, answer_of_wait}
 use Rattle.kernel_types.specs.Drains.{connection_of}
 use Rattle.kernel_types.specs.Sending.{request_frame, leave_frame, frame}
-use Rattle.ns_driver.specs.Standing.{IsSound}
+use Rattle.ns_driver.specs.Value.{IsSound}
 use Rattle.ns_driver.specs.Acts.{still_waits}
 use Rattle.ns_driver.specs.Plans.{alone, memory_after}
 use Rattle.ns_driver.specs.Worlds.{clients_after}

@@ -21,8 +21,8 @@ use Rattle.kernel_values.specs.declared.world.World.{World}
 use Rattle.kernel_types.specs.Clients.{Acted, ns_act}
 use Rattle.kernel_types.specs.Drains.{connection_changed, connection_place, status_changed, answered_status, left_status, received_by, deliver_control, deliver_frame, delivered, drained, to_normal_drained, from_normal_drained, drained_frames}
 use Rattle.kernel_types.specs.Sending.{control_address}
-use Rattle.ns_driver.specs.Standing.{IsSound}
-use Rattle.ns_driver.specs.Acts.{Told, told, bare, acted, MayAct, HasRoom}
+use Rattle.ns_driver.specs.Value.{IsSound}
+use Rattle.ns_driver.specs.Acts.{DriverOutcome, told, bare, acted, MayAct, HasRoom}
 use Rattle.ns_driver.specs.Plans.{Outcome, outcome, outcome_of, planned, alone, told_of, memory_after}
 use Rattle.ns_driver.proofs.Anywhere.{connects, sends, receives, closes, resumes}
 
@@ -31,13 +31,13 @@ use Rattle.ns_driver.proofs.Anywhere.{connects, sends, receives, closes, resumes
 pub told_there : (client : ℕ) (before : Option ClientWaitOn) (call : Option Call) (w : World)
     → option_map told (planned client before call w) ≡ option_map (told_of w) (option_map outcome_of (planned client before call (alone w.driver)))
 unfolding planned
-told_there client before (Some (call.NsConnect path)) w = ap (λ (a : Acted). let o : Option Told = Some (told a) in o) (connects 0 client path w).same
-told_there client before (Some (call.NsSend conn bytes)) w = ap (λ (a : Acted). let o : Option Told = Some (told a) in o) (sends 0 client conn bytes w).same
-told_there client before (Some (call.NsRecv conn timeout)) w = ap (λ (a : Acted). let o : Option Told = Some (told a) in o) (receives 0 client conn timeout w).same
-told_there client before (Some (call.NsClose conn)) w = ap (λ (a : Acted). let o : Option Told = Some (told a) in o) (closes 0 client conn w).same
+told_there client before (Some (call.NsConnect path)) w = ap (λ (a : Acted). let o : Option DriverOutcome = Some (told a) in o) (connects 0 client path w).same
+told_there client before (Some (call.NsSend conn bytes)) w = ap (λ (a : Acted). let o : Option DriverOutcome = Some (told a) in o) (sends 0 client conn bytes w).same
+told_there client before (Some (call.NsRecv conn timeout)) w = ap (λ (a : Acted). let o : Option DriverOutcome = Some (told a) in o) (receives 0 client conn timeout w).same
+told_there client before (Some (call.NsClose conn)) w = ap (λ (a : Acted). let o : Option DriverOutcome = Some (told a) in o) (closes 0 client conn w).same
 told_there client before (Some other) w = refl
 told_there client None None w = refl
-told_there client (Some on) None w = ap (λ (a : Acted). let o : Option Told = Some (told a) in o) (resumes on w).same
+told_there client (Some on) None w = ap (λ (a : Acted). let o : Option DriverOutcome = Some (told a) in o) (resumes on w).same
 
 abbrev SoundIn : Option Outcome → Type 0
 SoundIn None = Unit {0}
@@ -128,7 +128,7 @@ pub act_told : (memory now : List ℕ) (d found after : Driver) (client : ℕ) (
     → option_map told (acted client before call (bare memory d)) ≡ Some (record { answer = answer; memory = now; driver = after })
 act_told memory now d found after client before call answer frame lawful found-is plan-is now-is =
     let w = drained (bare memory d) in
-    let T : List ℕ → Option Told = λ m. Some (record { answer = answer; memory = m; driver = after }) in
+    let T : List ℕ → Option DriverOutcome = λ m. Some (record { answer = answer; memory = m; driver = after }) in
     let plan : option_map outcome_of (planned client before call (alone w.driver)) ≡ Some (outcome answer frame after) =
     ap (λ (x : Driver). option_map outcome_of (planned client before call (alone x))) (sym found-is) ∙ sym plan-is in
     let sizes : d.size ≡ w.driver.size = sym (drained_size (bare memory d)) in

@@ -8,7 +8,7 @@ use Rattle.kernel_values.specs.declared.world.Connection.{Connection}
 use Rattle.kernel_values.specs.declared.world.Driver.{Driver}
 use Rattle.kernel_types.specs.GuestMemory.{UsedElement, ring, given, buffer_count, new_elements, used_idx}
 use Rattle.kernel_types.specs.Drains.{is_readable, readable_elements, frame_at, delivered, with_free, freed_places, drained, to_normal_drained, from_normal_drained, drained_frames}
-use Rattle.ns_driver.specs.Standing.{IsSound}
+use Rattle.ns_driver.specs.Value.{IsSound}
 use Rattle.ns_driver.specs.Acts.{bare}
 use Rattle.ns_driver.proofs.Behind.{Sized, drop-given_all, same_idx, same_elements}
 

@@ -10,7 +10,8 @@ use Rattle.kernel_values.specs.declared.world.ClientWaitOn.{ClientWaitOn}
 use Rattle.kernel_values.specs.declared.world.ClientWaitOn.TheVariants as wait_on
 use Rattle.kernel_values.specs.declared.world.Driver.{Driver}
 use Rattle.kernel_values.specs.declared.world.World.{World}
-use Rattle.kernel_types.specs.Clients.{Acted, ns_act, answer_of_wait, drains, first_address}
+use Rattle.kernel_types.specs.Clients.{Acted, ns_act, answer_of_wait, first_address}
+use Rattle.kernel_values.specs.CallKinds.{drains}
 use Rattle.kernel_types.specs.Drains.{drained}
 use Rattle.kernel_types.specs.Opening.{opening_device}
 
@@ -36,12 +37,12 @@ acted client before (Some call) w = begun client call w
 acted client before None w = resumed before w
 
 -- what is left of a world: the answer, the memory, the driver
-pub record Told : Type 0 where
+pub record DriverOutcome : Type 0 where
   pub answer : Answer
   pub memory : List ℕ
   pub driver : Driver
 
-abbrev pub told : Acted → Told
+abbrev pub told : Acted → DriverOutcome
 told a = record { answer = a.answer; memory = a.world.memory; driver = a.world.driver }
 
 -- What the client waits for afterwards: a call that waits begins a new wait, and an answer ends one.

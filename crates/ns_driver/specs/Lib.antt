@@ -1,4 +1,4 @@
-pub mod Standing
+pub mod Value
 pub mod Acts
 pub mod Plans
 pub mod Watching

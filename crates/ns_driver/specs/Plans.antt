@@ -9,7 +9,7 @@ use Rattle.kernel_values.specs.declared.world.Driver.{Driver}
 use Rattle.kernel_values.specs.declared.world.World.{World}
 use Rattle.kernel_types.specs.GuestMemory.{with_frame}
 use Rattle.kernel_types.specs.Clients.{Acted, ns_connect_call, ns_send_call, ns_recv_call, ns_close_call, answer_of_wait}
-use Rattle.ns_driver.specs.Acts.{Told, bare, still_waits}
+use Rattle.ns_driver.specs.Acts.{DriverOutcome, bare, still_waits}
 
 pub record Outcome : Type 0 where
   pub answer : Answer
@@ -53,7 +53,7 @@ memory_after size free None memory = memory
 memory_after size free (Some frame) memory = sent_from size free frame memory
 
 -- what is told of a world whose calls come to this apart from the memory
-abbrev pub told_of : World → Outcome → Told
+abbrev pub told_of : World → Outcome → DriverOutcome
 told_of w o = record { answer = o.answer; memory = memory_after w.driver.size w.driver.free o.frame w.memory; driver = o.driver }
 
 -- a list without its first item, where it has one

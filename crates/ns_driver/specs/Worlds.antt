@@ -13,7 +13,8 @@ use Rattle.kernel_values.specs.declared.world.ClientState.{ClientState}
 use Rattle.kernel_values.specs.declared.world.ClientWait.{ClientWait}
 use Rattle.kernel_values.specs.declared.world.ClientWaitOn.{ClientWaitOn}
 use Rattle.kernel_values.specs.declared.world.World.{World}
-use Rattle.kernel_types.specs.Clients.{Acted, ns_act, ns_refuses, answer_of_wait, end_of_ns_wait, drains, client_changed, client_waiting, new_wait}
+use Rattle.kernel_types.specs.Clients.{Acted, ns_act, ns_refuses, answer_of_wait, end_of_ns_wait, client_changed, client_waiting, new_wait}
+use Rattle.kernel_values.specs.CallKinds.{drains}
 use Rattle.kernel_types.specs.Drains.{drained}
 use Rattle.ns_driver.specs.Acts.{bare, begun, still_waits, awaited, wait_if, has_answer}
 

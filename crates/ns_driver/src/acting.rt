@@ -5,7 +5,7 @@ ghost use Rattle.std.specs.Option.{option_map};
 ghost use Rattle.std.specs.List.{All, fold};
 ghost use Rattle.virtqueue.specs.Layout.{IsQueue};
 ghost use Rattle.kernel_types.specs.GuestMemory.{ring, given};
-ghost use Rattle.ns_driver.specs.Standing.{IsSound, wait_of};
+ghost use Rattle.ns_driver.specs.Value.{IsSound, wait_of};
 ghost use Rattle.ns_driver.specs.Acts.{bare, acted, told, awaited, new_wait_of, wait_if, MayAct, HasRoom};
 ghost use Rattle.ns_driver.specs.Plans.{outcome, outcome_of, planned, alone, memory_after};
 

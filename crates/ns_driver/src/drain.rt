@@ -5,7 +5,7 @@ ghost use Rattle.std.specs.List.{All, fold, filter, list_any, position_or_len, i
 ghost use Rattle.virtqueue.specs.Layout.{IsQueue};
 ghost use Rattle.kernel_types.specs.GuestMemory.{ring, buffer_count, used_idx, given, new_elements};
 ghost use Rattle.kernel_types.specs.Drains.{is_readable, readable_elements, frame_at, delivered, with_free, freed_places, drained};
-ghost use Rattle.ns_driver.specs.Standing.{IsSound};
+ghost use Rattle.ns_driver.specs.Value.{IsSound};
 ghost use Rattle.ns_driver.specs.Acts.{bare};
 
 use crate::connections::deliver;

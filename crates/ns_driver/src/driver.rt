@@ -4,7 +4,7 @@ ghost use Rattle.std.specs.Prelude.{◌≡◌, ◌<◌, ◌≤◌, length, Optio
 ghost use Rattle.std.specs.Option.{option_map};
 ghost use Rattle.kernel_types.specs.GuestMemory.{blank_memory, opening_memory};
 ghost use Rattle.kernel_types.specs.Opening.{opening_driver};
-ghost use Rattle.ns_driver.specs.Standing.{wait_of};
+ghost use Rattle.ns_driver.specs.Value.{wait_of};
 ghost use Rattle.ns_driver.specs.Acts.{bare, acted, told, wait_after, has_answer, MayAct};
 
 use crate::acting::{act_on, give_all, new_wait_of, wait_if, wait_of};
@@ -23,9 +23,9 @@ pub struct Driver {
 }
 
 impl Model for Driver {
-    ghost use Rattle.ns_driver.specs.Standing.{Standing, IsSound};
+    ghost use Rattle.ns_driver.specs.Value.{DriverValue, IsSound};
 
-    ghost Value = { Standing };
+    ghost Value = { DriverValue };
 
     ghost view = { λ d. record { driver = d.state; waits = d.waits } };
 

@@ -5,7 +5,7 @@ ghost use Rattle.std.specs.List.{fold};
 ghost use Rattle.tipc_proto.specs.Controls.{control_in};
 ghost use Rattle.kernel_types.specs.Drains.{is_readable, frame_at, readable_elements};
 ghost use Rattle.kernel_values.specs.declared.world.ClientWaitOn.TheVariants as wait_on;
-ghost use Rattle.ns_driver.specs.Standing.{IsSound};
+ghost use Rattle.ns_driver.specs.Value.{IsSound};
 ghost use Rattle.ns_driver.specs.Acts.{bare, has_answer};
 ghost use Rattle.ns_driver.specs.Watching.{is_established, glimpse_of, control_seen, seen};
 

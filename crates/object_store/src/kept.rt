@@ -14,7 +14,7 @@ use std::marker::Model;
 
 /// A value in its slot.
 #[derive(Drop)]
-pub struct Kept<T> {
+pub struct Slot<T> {
     serial: u64,
     names: u64,
     // Where the list of the dead has the slot, while it has it. No contract speaks of it: it tells where
@@ -23,7 +23,7 @@ pub struct Kept<T> {
     value: T,
 }
 
-impl<T> Model for Kept<T> {
+impl<T> Model for Slot<T> {
     ghost use Rattle.object_store.specs.Stock.{Held, held_code};
 
     ghost Value = { Held T };
@@ -33,8 +33,8 @@ impl<T> Model for Kept<T> {
     ghost view = { λ k. record { serial = k.serial; names = k.names; value = k.value } };
 }
 
-impl<T> Kept<T> {
-    ghost use Rattle.object_store.specs.contracts.kept.Kept.{the_row};
+impl<T> Slot<T> {
+    ghost use Rattle.object_store.specs.contracts.kept.Slot.{the_row};
 
     pub fn value(&self) -> &T
         ensures { result.now ≡ self.now.value }
@@ -90,7 +90,7 @@ impl<T> Kept<T> {
 /// the slab, with as much room as the list of the dead has too.
 #[derive(Drop)]
 pub struct KeptSlots<T> {
-    slab: Slab<Kept<T>>,
+    slab: Slab<Slot<T>>,
     // Each dead slot once.
     dead: Vec<usize>,
 }
@@ -127,7 +127,7 @@ fn place_of(dead: &[usize], hint: usize, slot: usize) -> Option<usize>
 }
 
 // The value in the slot is told its place in the list.
-fn tell_place<T>(slab: &mut Slab<Kept<T>>, slot: usize, place: usize)
+fn tell_place<T>(slab: &mut Slab<Slot<T>>, slot: usize, place: usize)
     ensures { slab.new ≡ slab.old }
 {
     if let Some(kept) = slab.get_mut(slot) {
@@ -137,7 +137,7 @@ fn tell_place<T>(slab: &mut Slab<Kept<T>>, slot: usize, place: usize)
 
 // Takes the slot, which the list has at most once, out of it. The last one comes in its place.
 #[tactic(auto, using(crate::proofs::Dead::unlisted, crate::proofs::Dead::nowhere))]
-fn unlist<T>(slab: &mut Slab<Kept<T>>, dead: &mut Vec<usize>, hint: usize, slot: usize)
+fn unlist<T>(slab: &mut Slab<Slot<T>>, dead: &mut Vec<usize>, hint: usize, slot: usize)
     ensures slab { slab.new ≡ slab.old }
     ensures dead { IsUnlisted 1 slot dead.old.items dead.new.items }
     ensures capacity { vec_capacity dead.new ≡ vec_capacity dead.old }
@@ -153,7 +153,7 @@ fn unlist<T>(slab: &mut Slab<Kept<T>>, dead: &mut Vec<usize>, hint: usize, slot:
 
 // Takes the slot out of the list, where its value is dead.
 #[tactic(auto, using(crate::proofs::Dead::not_listed))]
-fn unlist_dead<T>(slab: &mut Slab<Kept<T>>, dead: &mut Vec<usize>, slot: usize)
+fn unlist_dead<T>(slab: &mut Slab<Slot<T>>, dead: &mut Vec<usize>, slot: usize)
     ensures slab { slab.new ≡ slab.old }
     ensures dead { IsUnlisted (once (is_dead (get slab.old slot))) slot dead.old.items dead.new.items }
     ensures capacity { vec_capacity dead.new ≡ vec_capacity dead.old }
@@ -233,7 +233,7 @@ impl<T> KeptSlots<T> {
         ensures len { slab_len self.new ≡ slab_len self.old + 1 }
         ensures capacity { self.new.capacity ≡ self.old.capacity }
     {
-        let kept = Kept {
+        let kept = Slot {
             serial,
             names: 1,
             place: self.dead.len(),
@@ -245,7 +245,7 @@ impl<T> KeptSlots<T> {
     }
 
     /// What is in the slot.
-    pub fn get(&self, slot: usize) -> Option<&Kept<T>>
+    pub fn get(&self, slot: usize) -> Option<&Slot<T>>
         ensures { option_copied result ≡ get self.now slot }
     {
         self.slab.get(slot)
@@ -286,7 +286,7 @@ impl<T> KeptSlots<T> {
         let names = kept.names();
         if names == 1 {
             unlist_dead(&mut self.slab, &mut self.dead, slot);
-            let Kept { value, .. } = self.slab.remove(slot);
+            let Slot { value, .. } = self.slab.remove(slot);
             return Some(value);
         }
         self.take_name(slot, names == 2);

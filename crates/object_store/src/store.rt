@@ -6,7 +6,7 @@ ghost use Rattle.std.specs.Borrow.{sem};
 ghost use Rattle.object_store.specs.Slots.{is_at};
 ghost use Rattle.object_store.specs.Stock.{new_held, held_at, value_at, names_at, total_names, changed, one_more, unnamed, last_at, NoneDead, IsSoundFrom};
 
-use crate::kept::{Kept, KeptSlots};
+use crate::kept::{Slot, KeptSlots};
 use crate::key::ObjKey;
 use kernel_values::NoMemory;
 use std::alloc::Global;
@@ -191,7 +191,7 @@ impl<T> Store<T> {
     }
 
     // What is there under the key's serial number.
-    fn kept(&self, key: ObjKey) -> Option<&Kept<T>>
+    fn kept(&self, key: ObjKey) -> Option<&Slot<T>>
         ensures { option_copied result ≡ held_at self.now.items key.serial }
     {
         match slot_of(&self.slab, key) {

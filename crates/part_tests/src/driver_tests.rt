@@ -1,7 +1,7 @@
 //! A request for a connection and messages over it, with a device that is played by hand: the frames byte for byte.
 ghost use Rattle.std.specs.Prelude.{◌≡◌, ◌+◌, ◌<◌, ◌≤◌, Some, None, IfOk, length, vec_len};
 ghost use Rattle.kernel_types.specs.GuestMemory.{blank_memory};
-ghost use Rattle.ns_driver.specs.Standing.{wait_of};
+ghost use Rattle.ns_driver.specs.Value.{wait_of};
 ghost use Rattle.ns_driver.specs.Acts.{MayAct};
 
 use kernel_values::{Answer, Call, Errno, Items, NoMemory, Reply, Timeout};

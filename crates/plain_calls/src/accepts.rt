@@ -3,11 +3,11 @@
 ghost use Rattle.std.specs.Prelude.{◌≡◌, OnOk, IfOk};
 ghost use Rattle.kernel_types.specs.Connects.{accepted_end, accept_client, uuid_of, peer_uuid, peer_of, accept_server, accept, unready, holds_end, decided_on, connect_decision};
 ghost use Rattle.kernel_types.specs.Objects.{end_changed, port_changed, end_of};
-ghost use Rattle.plain_calls.specs.Shown.{outcome, outcome_if};
+ghost use Rattle.plain_calls.specs.Outcomes.{outcome, outcome_if};
 ghost use Rattle.kernel_types.specs.Tables.{entry_at, table_of};
 ghost use Rattle.std.specs.Option.{is_some};
 
-use crate::told::{Told, gives, refuses};
+use crate::told::{CallOutcome, gives, refuses};
 use kernel_values::{
     Body, ChannelEnd, Connector, Copied, CoreState, EndState, Errno, Items, NoMemory, Object, Reply,
 };
@@ -99,7 +99,7 @@ fn accept_server(
     port: u64,
     server: u64,
     rest: &[u64],
-) -> Result<Told, NoMemory>
+) -> Result<CallOutcome, NoMemory>
     ensures { IfOk result (λ told. outcome told core.new ≡ accept_server core.old app port server rest.now (peer_of (end_of core.old.objects server))) }
 {
     let handle = least_free_handle(table_of(core, app));
@@ -114,7 +114,7 @@ fn accept_server(
 
 /// The first pending server end of a port is installed.
 #[tactic(auto, unfolding(kernel_types::specs::Connects::accept))]
-pub fn accept_call(core: &mut CoreState, app: u32, handle: u32) -> Result<Told, NoMemory>
+pub fn accept_call(core: &mut CoreState, app: u32, handle: u32) -> Result<CallOutcome, NoMemory>
     ensures { IfOk result (λ told. outcome told core.new ≡ accept core.old app handle) }
 {
     let Some(entry) = find_entry(table_of(core, app), handle) else {
@@ -184,7 +184,7 @@ fn decide_on(
     id: u64,
     handle: u32,
     cancelled: bool,
-) -> Result<Option<Told>, NoMemory>
+) -> Result<Option<CallOutcome>, NoMemory>
     ensures { IfOk result (λ told. outcome_if told core.new ≡ decided_on core.old app id handle cancelled (end_of core.old.objects id)) }
 {
     let Some(end) = find_end(core.objects.as_slice(), id) else {
@@ -213,7 +213,7 @@ pub fn decide_connect(
     end: u64,
     handle: u32,
     cancelled: bool,
-) -> Result<Option<Told>, NoMemory>
+) -> Result<Option<CallOutcome>, NoMemory>
     ensures { IfOk result (λ told. outcome_if told core.new ≡ connect_decision core.old app end handle cancelled) }
 {
     if !holds_end(core, app, handle, end) {

@@ -4,11 +4,11 @@ ghost use Rattle.std.specs.Prelude.{◌≡◌, IfOk, ◌+◌, map, OnOk, slice_g
 ghost use Rattle.kernel_types.specs.Applications.{has_start_left, started_thread, started, ended_activity, ended_thread, without_app, is_started_again, application_ended, is_over, is_elsewhere_or_over, thread_ended, after_finish, finish, exit, has_start_port};
 ghost use Rattle.std.specs.List.{list_all};
 ghost use Rattle.kernel_types.specs.Objects.{map_at};
-ghost use Rattle.plain_calls.specs.Shown.{outcome};
+ghost use Rattle.plain_calls.specs.Outcomes.{outcome};
 ghost use Rattle.std.specs.Option.{option_copied};
 ghost use Rattle.kernel_types.specs.Connects.{start_flags, app_place};
 
-use crate::told::{Told, gives};
+use crate::told::{CallOutcome, gives};
 use kernel_values::{Activity, Application, CoreState, Items, NoMemory, Reply, StartPort, Thread};
 use std::alloc::Global;
 
@@ -173,7 +173,7 @@ fn end_if_last(core: &mut CoreState, app: u32) -> Result<(), NoMemory>
 
 /// The thread ends, and with the last thread its application.
 #[tactic(auto, unfolding(kernel_types::specs::Applications::finish))]
-pub fn finish_call(core: &mut CoreState, thread: u32, app: u32) -> Result<Told, NoMemory>
+pub fn finish_call(core: &mut CoreState, thread: u32, app: u32) -> Result<CallOutcome, NoMemory>
     ensures { IfOk result (λ told. outcome told core.new ≡ finish core.old thread app) }
 {
     end_thread(core, thread);
@@ -183,7 +183,7 @@ pub fn finish_call(core: &mut CoreState, thread: u32, app: u32) -> Result<Told, 
 
 /// The application ends.
 #[tactic(auto, unfolding(kernel_types::specs::Applications::exit))]
-pub fn exit_call(core: &mut CoreState, app: u32) -> Result<Told, NoMemory>
+pub fn exit_call(core: &mut CoreState, app: u32) -> Result<CallOutcome, NoMemory>
     ensures { IfOk result (λ told. outcome told core.new ≡ exit core.old app) }
 {
     end_application(core, app)?;

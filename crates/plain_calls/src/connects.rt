@@ -4,13 +4,13 @@
 ghost use Rattle.std.specs.Prelude.{◌≡◌, OnOk, ◌++◌, ◌∷◌, [], IfOk, slice_get};
 ghost use Rattle.kernel_types.specs.Connects.{waits_for_port, is_asynchronous, may_serve, pending_pair, waiting_client, to_port, started_unless_running, connected, to_start, to_nothing, way_by_port, way_of, connect};
 ghost use Rattle.kernel_types.specs.Objects.{port_changed};
-ghost use Rattle.plain_calls.specs.Shown.{outcome, connected_as, connect_way};
+ghost use Rattle.plain_calls.specs.Outcomes.{outcome, connected_as, connect_way};
 ghost use Rattle.kernel_values.specs.declared.state.Connector.TheVariants as connector;
 
 use crate::applications::{find_start_port, has_start_left, place_of_server, start_application};
 use crate::ports::admits;
 use crate::threads::begin_to_wait;
-use crate::told::{Told, gives, refuses};
+use crate::told::{CallOutcome, gives, refuses};
 use kernel_values::{
     Application, Body, Bytes, ConnectFlags, Connector, Copied, CoreState, EndState, Errno,
     NoMemory, Port, PortFlags, Reply, WaitOn,
@@ -104,7 +104,7 @@ fn connected(
     flags: ConnectFlags,
     end: u64,
     handle: u32,
-) -> Result<Told, NoMemory>
+) -> Result<CallOutcome, NoMemory>
     ensures { IfOk result (λ told. outcome told core.new ≡ connected_as end handle thread app flags core.old) }
 {
     install(core, app, end)?;
@@ -114,7 +114,7 @@ fn connected(
     Ok(begin_to_wait(core, thread, WaitOn::Connect { end, handle }, None))
 }
 
-#[tactic(auto, unfolding(crate::specs::Shown::connect_way))]
+#[tactic(auto, unfolding(crate::specs::Outcomes::connect_way))]
 fn connect_to_port(
     core: &mut CoreState,
     thread: u32,
@@ -123,7 +123,7 @@ fn connect_to_port(
     flags: ConnectFlags,
     id: u64,
     port: &Port,
-) -> Result<Told, NoMemory>
+) -> Result<CallOutcome, NoMemory>
     ensures { IfOk result (λ told. outcome told core.new ≡ connect_way (to_port id port.now) core.old thread app path.now flags) }
 {
     if !admits(port.flags, Connector::App(app)) {
@@ -159,7 +159,7 @@ fn connect_at_start(
     app: u32,
     path: &Bytes,
     flags: ConnectFlags,
-) -> Result<Told, NoMemory>
+) -> Result<CallOutcome, NoMemory>
     ensures { IfOk result (λ told. outcome told core.new ≡ connected core.old thread app flags (waiting_client (connector.App app) path.now core.old)) }
 {
     let end = core.next;
@@ -168,7 +168,7 @@ fn connect_at_start(
     connected(core, thread, app, flags, end, handle)
 }
 
-#[tactic(auto, unfolding(crate::specs::Shown::connect_way))]
+#[tactic(auto, unfolding(crate::specs::Outcomes::connect_way))]
 fn connect_to_start(
     core: &mut CoreState,
     thread: u32,
@@ -177,7 +177,7 @@ fn connect_to_start(
     flags: ConnectFlags,
     place: u32,
     start: PortFlags,
-) -> Result<Told, NoMemory>
+) -> Result<CallOutcome, NoMemory>
     ensures { IfOk result (λ told. outcome told core.new ≡ connect_way (to_start place start) core.old thread app path.now flags) }
 {
     if !admits(start, Connector::App(app)) {
@@ -191,14 +191,14 @@ fn connect_to_start(
     Ok(told)
 }
 
-#[tactic(auto, unfolding(crate::specs::Shown::connect_way))]
+#[tactic(auto, unfolding(crate::specs::Outcomes::connect_way))]
 fn connect_to_nothing(
     core: &mut CoreState,
     thread: u32,
     app: u32,
     path: &Bytes,
     flags: ConnectFlags,
-) -> Result<Told, NoMemory>
+) -> Result<CallOutcome, NoMemory>
     ensures { IfOk result (λ told. outcome told core.new ≡ connect_way to_nothing core.old thread app path.now flags) }
 {
     if !waits_for_port(flags) {
@@ -211,7 +211,7 @@ fn connect_to_nothing(
 }
 
 /// A place as the number of an application; refused where it is out of their range.
-pub fn number_of_place(place: usize) -> Result<u32, NoMemory>
+pub fn to_u32(place: usize) -> Result<u32, NoMemory>
     ensures { IfOk result (λ number. number ≡ place) }
 {
     if place > u32::MAX as usize {
@@ -227,7 +227,7 @@ fn connect_to_app(
     app: u32,
     path: &Bytes,
     flags: ConnectFlags,
-) -> Result<Told, NoMemory>
+) -> Result<CallOutcome, NoMemory>
     ensures { IfOk result (λ told. outcome told core.new ≡ connect_way (way_by_port path.now core.old None) core.old thread app path.now flags) }
 {
     let place = place_of_server(core, path.as_slice());
@@ -241,7 +241,7 @@ fn connect_to_app(
     if !may_serve(server) {
         return connect_to_nothing(core, thread, app, path, flags);
     }
-    let number = number_of_place(place)?;
+    let number = to_u32(place)?;
     Ok(connect_to_start(core, thread, app, path, flags, number, start_flags)?)
 }
 
@@ -251,7 +251,7 @@ fn connect_on(
     app: u32,
     path: &Bytes,
     flags: ConnectFlags,
-) -> Result<Told, NoMemory>
+) -> Result<CallOutcome, NoMemory>
     ensures { IfOk result (λ told. outcome told core.new ≡ connect_way (way_of core.old path.now) core.old thread app path.now flags) }
 {
     let Some(object) = find_published(core.objects.as_slice(), path.as_slice()) else {
@@ -273,14 +273,14 @@ fn connect_on(
 }
 
 /// Connects to the port of a path.
-#[tactic(auto, unfolding(kernel_types::specs::Connects::connect, crate::specs::Shown::connect_way))]
+#[tactic(auto, unfolding(kernel_types::specs::Connects::connect, crate::specs::Outcomes::connect_way))]
 pub fn connect_call(
     core: &mut CoreState,
     thread: u32,
     app: u32,
     path: &Bytes,
     flags: ConnectFlags,
-) -> Result<Told, NoMemory>
+) -> Result<CallOutcome, NoMemory>
     ensures { IfOk result (λ told. outcome told core.new ≡ connect core.old thread app path.now flags) }
 {
     if !is_lawful_path(path.as_slice()) {

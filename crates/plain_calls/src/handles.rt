@@ -1,12 +1,12 @@
 //! The calls on one number of the caller's table.
 
 ghost use Rattle.std.specs.Prelude.{IfOk, ◌≡◌, ◌==◌};
-ghost use Rattle.plain_calls.specs.Shown.{outcome};
+ghost use Rattle.plain_calls.specs.Outcomes.{outcome};
 ghost use Rattle.kernel_types.specs.Handles.{close, set_cookie, dup};
 ghost use Rattle.std.specs.List.{position_or_len};
 ghost use Rattle.kernel_types.specs.Tables.{with_cookie, with_table};
 
-use crate::told::{Told, gives, refuses};
+use crate::told::{CallOutcome, gives, refuses};
 use kernel_values::{CoreState, Errno, Items, NoMemory, Reply, TableEntry};
 use plain_objects::tables::{
     find_entry, install, is_full_table, least_free_handle, remove_entry, table_of,
@@ -14,7 +14,7 @@ use plain_objects::tables::{
 
 /// Takes the number away.
 #[tactic(auto, unfolding(kernel_types::specs::Handles::close))]
-pub fn close_call(core: &mut CoreState, app: u32, handle: u32) -> Result<Told, NoMemory>
+pub fn close_call(core: &mut CoreState, app: u32, handle: u32) -> Result<CallOutcome, NoMemory>
     ensures { IfOk result (λ told. outcome told core.new ≡ close core.old app handle) }
 {
     let Some(_entry) = find_entry(table_of(core, app), handle) else {
@@ -59,7 +59,7 @@ pub fn set_cookie_call(
     app: u32,
     handle: u32,
     cookie: u64,
-) -> Result<Told, NoMemory>
+) -> Result<CallOutcome, NoMemory>
     ensures { IfOk result (λ told. outcome told core.new ≡ set_cookie core.old app handle cookie) }
 {
     let Some(_entry) = find_entry(table_of(core, app), handle) else {
@@ -71,7 +71,7 @@ pub fn set_cookie_call(
 
 /// Gives the object of the number one more number.
 #[tactic(auto, unfolding(kernel_types::specs::Handles::dup))]
-pub fn dup_call(core: &mut CoreState, app: u32, handle: u32) -> Result<Told, NoMemory>
+pub fn dup_call(core: &mut CoreState, app: u32, handle: u32) -> Result<CallOutcome, NoMemory>
     ensures { IfOk result (λ told. outcome told core.new ≡ dup core.old app handle) }
 {
     let Some(entry) = find_entry(table_of(core, app), handle) else {

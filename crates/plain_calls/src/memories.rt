@@ -2,10 +2,10 @@
 
 ghost use Rattle.std.specs.Prelude.{◌≡◌, IfOk, replicate, ◌+◌, ◌≤◌, length, take, drop, OnOk, ◌++◌};
 ghost use Rattle.kernel_types.specs.Memories.{is_lawful_size, new_memory, mem_create, is_range, mem_read_of, mem_read, overwritten, written, mem_write_of, mem_write};
-ghost use Rattle.plain_calls.specs.Shown.{outcome};
+ghost use Rattle.plain_calls.specs.Outcomes.{outcome};
 ghost use Rattle.kernel_types.specs.Objects.{memory_of, memory_changed};
 
-use crate::told::{Told, gives, refuses};
+use crate::told::{CallOutcome, gives, refuses};
 use kernel_values::{
     Body, Bytes, CoreState, Errno, Handles, Items, MemFlags, MemoryRef, NoMemory, Reply,
 };
@@ -48,7 +48,7 @@ pub fn mem_create_call(
     app: u32,
     size: u32,
     flags: MemFlags,
-) -> Result<Told, NoMemory>
+) -> Result<CallOutcome, NoMemory>
     ensures { IfOk result (λ told. outcome told core.new ≡ mem_create core.old app size flags) }
 {
     if !is_lawful_size(size) {
@@ -82,7 +82,7 @@ fn copied_range(alloc: Global, bytes: &[u8], offset: usize, len: usize) -> Resul
     Items::from_slice(alloc, &rest[..len])
 }
 
-fn mem_read_from(core: &CoreState, object: u64, offset: u32, len: u32) -> Result<Told, NoMemory>
+fn mem_read_from(core: &CoreState, object: u64, offset: u32, len: u32) -> Result<CallOutcome, NoMemory>
     ensures { IfOk result (λ told. outcome told core.now ≡ mem_read_of core.now (memory_of core.now.objects object) offset len) }
 {
     let Some(memory) = find_memory(core.objects.as_slice(), object) else {
@@ -110,7 +110,7 @@ pub fn mem_read_call(
     handle: u32,
     offset: u32,
     len: u32,
-) -> Result<Told, NoMemory>
+) -> Result<CallOutcome, NoMemory>
     ensures { IfOk result (λ told. outcome told core.now ≡ mem_read core.now app handle offset len) }
 {
     let Some(entry) = find_entry(table_of(core, app), handle) else {
@@ -168,7 +168,7 @@ fn mem_write_to(
     object: u64,
     offset: u32,
     bytes: &[u8],
-) -> Result<Told, NoMemory>
+) -> Result<CallOutcome, NoMemory>
     ensures { IfOk result (λ told. outcome told core.new ≡ mem_write_of core.old object (memory_of core.old.objects object) offset bytes.now) }
 {
     let Some(memory) = find_memory(core.objects.as_slice(), object) else {
@@ -192,7 +192,7 @@ pub fn mem_write_call(
     handle: u32,
     offset: u32,
     bytes: &Bytes,
-) -> Result<Told, NoMemory>
+) -> Result<CallOutcome, NoMemory>
     ensures { IfOk result (λ told. outcome told core.new ≡ mem_write core.old app handle offset bytes.now) }
 {
     let Some(entry) = find_entry(table_of(core, app), handle) else {

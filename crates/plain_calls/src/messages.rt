@@ -3,10 +3,10 @@
 ghost use Rattle.std.specs.Prelude.{◌≡◌, IfOk, ◌≤◌, length, take, drop};
 ghost use Rattle.kernel_types.specs.Messages.{with_opened, get_from, get, read_message, read_from, read, without_opened, unblocked_end, peer_unblocked, put_from, put};
 ghost use Rattle.kernel_types.specs.Objects.{end_changed, end_of};
-ghost use Rattle.plain_calls.specs.Shown.{outcome};
+ghost use Rattle.plain_calls.specs.Outcomes.{outcome};
 
-use crate::connects::number_of_place;
-use crate::told::{Told, gives, gives_with, refuses};
+use crate::connects::to_u32;
+use crate::told::{CallOutcome, gives, gives_with, refuses};
 use kernel_values::{
     Body, ChannelEnd, Copied, CoreState, EndSeq, Errno, Items, Message, NoMemory, ObjId, Reply,
     Seqs,
@@ -41,7 +41,7 @@ pub fn open_message(core: &mut CoreState, object: u64, id: u32)
     }
 }
 
-fn get_from(core: &mut CoreState, object: u64) -> Result<Told, NoMemory>
+fn get_from(core: &mut CoreState, object: u64) -> Result<CallOutcome, NoMemory>
     ensures { IfOk result (λ told. outcome told core.new ≡ get_from core.old object (end_of core.old.objects object)) }
 {
     let Some(end) = find_end(core.objects.as_slice(), object) else {
@@ -57,8 +57,8 @@ fn get_from(core: &mut CoreState, object: u64) -> Result<Told, NoMemory>
         return Ok(refuses(Errno::NoMsg));
     };
     let seq = message.seq;
-    let len = number_of_place(message.bytes.len())?;
-    let parts = number_of_place(message.parts.len())?;
+    let len = to_u32(message.bytes.len())?;
+    let parts = to_u32(message.parts.len())?;
     let id = least_free_id(end.messages.as_slice())?;
     open_message(core, object, id);
     let seqs = Seqs {
@@ -74,7 +74,7 @@ fn get_from(core: &mut CoreState, object: u64) -> Result<Told, NoMemory>
 
 /// The oldest filled message becomes open.
 #[tactic(auto, unfolding(kernel_types::specs::Messages::get))]
-pub fn get_call(core: &mut CoreState, app: u32, chan: u32) -> Result<Told, NoMemory>
+pub fn get_call(core: &mut CoreState, app: u32, chan: u32) -> Result<CallOutcome, NoMemory>
     ensures { IfOk result (λ told. outcome told core.new ≡ get core.old app chan) }
 {
     let Some(entry) = find_entry(table_of(core, app), chan) else {
@@ -108,7 +108,7 @@ fn read_message(
     offset: u32,
     room: u32,
     parts: u32,
-) -> Result<Told, NoMemory>
+) -> Result<CallOutcome, NoMemory>
     ensures { IfOk result (λ told. outcome told core.new ≡ read_message core.old app message.now offset room parts) }
 {
     if message.bytes.len() < offset as usize {
@@ -141,7 +141,7 @@ fn read_from(
     offset: u32,
     room: u32,
     parts: u32,
-) -> Result<Told, NoMemory>
+) -> Result<CallOutcome, NoMemory>
     ensures { IfOk result (λ told. outcome told core.new ≡ read_from core.old app (end_of core.old.objects object) id offset room parts) }
 {
     let Some(end) = find_end(core.objects.as_slice(), object) else {
@@ -164,7 +164,7 @@ pub fn read_call(
     offset: u32,
     room: u32,
     parts: u32,
-) -> Result<Told, NoMemory>
+) -> Result<CallOutcome, NoMemory>
     ensures { IfOk result (λ told. outcome told core.new ≡ read core.old app chan id offset room parts) }
 {
     let Some(entry) = find_entry(table_of(core, app), chan) else {
@@ -174,7 +174,7 @@ pub fn read_call(
 }
 
 /// The message that is open under the id goes.
-#[tactic(auto, unfolding(plain_objects::specs::Tests::is_another))]
+#[tactic(auto, unfolding(plain_objects::specs::Predicates::is_another))]
 pub fn retire(core: &mut CoreState, object: u64, id: u32)
     ensures { core.new ≡ end_changed (without_opened id) object core.old }
 {
@@ -207,7 +207,7 @@ pub fn unblock_peer(core: &mut CoreState, peer: Option<u64>)
     }
 }
 
-fn put_from(core: &mut CoreState, object: u64, id: u32) -> Told
+fn put_from(core: &mut CoreState, object: u64, id: u32) -> CallOutcome
     ensures { outcome result core.new ≡ put_from core.old object id (end_of core.old.objects object) }
 {
     let Some(end) = find_end(core.objects.as_slice(), object) else {
@@ -233,7 +233,7 @@ fn put_from(core: &mut CoreState, object: u64, id: u32) -> Told
 
 /// The message is retired; a peer that is blocked becomes unblocked.
 #[tactic(auto, unfolding(kernel_types::specs::Messages::put))]
-pub fn put_call(core: &mut CoreState, app: u32, chan: u32, id: u32) -> Told
+pub fn put_call(core: &mut CoreState, app: u32, chan: u32, id: u32) -> CallOutcome
     ensures { outcome result core.new ≡ put core.old app chan id }
 {
     let Some(entry) = find_entry(table_of(core, app), chan) else {

@@ -3,10 +3,10 @@
 ghost use Rattle.std.specs.Prelude.{◌≡◌, IfOk, ◌==◌, OnOk, map, ◌++◌};
 ghost use Rattle.kernel_types.specs.Ports.{is_lawful_port, admits, admits_client, waits_for, end_is_admitted, admitted, decided_end, decided, publish_to, publish, port_create};
 ghost use Rattle.std.specs.List.{position_or_len};
-ghost use Rattle.plain_objects.specs.Tests.{server_number, server_object};
-ghost use Rattle.plain_calls.specs.Shown.{outcome};
+ghost use Rattle.plain_objects.specs.Predicates.{server_number, server_object};
+ghost use Rattle.plain_calls.specs.Outcomes.{outcome};
 
-use crate::told::{Told, gives, refuses};
+use crate::told::{CallOutcome, gives, refuses};
 use kernel_values::{
     Body, Bytes, ChannelEnd, Connector, Copied, CoreState, EndState, Errno, Items, NoMemory,
     Object, Port, PortFlags, Reply,
@@ -88,7 +88,7 @@ fn place_in(clients: &[u64], client: u64) -> usize
 }
 
 /// The number of a client's server end.
-#[tactic(auto, unfolding(plain_objects::specs::Tests::server_number))]
+#[tactic(auto, unfolding(plain_objects::specs::Predicates::server_number))]
 fn server_of(first: u64, clients: &[u64], client: u64) -> Result<u64, NoMemory>
     ensures { IfOk result (λ server. server ≡ server_number first clients.now client) }
 {
@@ -96,7 +96,7 @@ fn server_of(first: u64, clients: &[u64], client: u64) -> Result<u64, NoMemory>
 }
 
 /// An end that waits for the port is let in or denied; every other end stays.
-#[tactic(auto, unfolding(plain_objects::specs::Tests::server_number))]
+#[tactic(auto, unfolding(plain_objects::specs::Predicates::server_number))]
 fn decide_end(
     end: &mut ChannelEnd,
     port: &Port,
@@ -158,7 +158,7 @@ fn all_servers(alloc: Global, first: u64, clients: &[u64]) -> Result<Items<u64>,
 }
 
 /// A client's server end under its number.
-#[tactic(auto, unfolding(plain_objects::specs::Tests::server_number, plain_objects::specs::Tests::server_object))]
+#[tactic(auto, unfolding(plain_objects::specs::Predicates::server_number, plain_objects::specs::Predicates::server_object))]
 fn server_object(
     alloc: Global,
     port: &Port,
@@ -189,7 +189,7 @@ fn add_servers(
 }
 
 /// The port gets the next number, and after it come the server ends, which are pending in that order.
-#[tactic(auto, unfolding(plain_objects::specs::Tests::server_number, plain_objects::specs::Tests::server_object))]
+#[tactic(auto, unfolding(plain_objects::specs::Predicates::server_number, plain_objects::specs::Predicates::server_object))]
 fn publish_to(core: &mut CoreState, port: &Port, clients: &[u64]) -> Result<(), NoMemory>
     ensures { OnOk result (core.new ≡ publish_to clients.now port.now core.old) }
 {
@@ -223,7 +223,7 @@ pub fn port_create_call(
     bufs: u32,
     size: u32,
     flags: PortFlags,
-) -> Result<Told, NoMemory>
+) -> Result<CallOutcome, NoMemory>
     ensures { IfOk result (λ told. outcome told core.new ≡ port_create core.old app path.now bufs size flags) }
 {
     if !is_lawful_port(path.as_slice(), bufs, size) {

@@ -4,12 +4,12 @@ ghost use Rattle.std.specs.Prelude.{◌≡◌, IfOk, map, OnOk};
 ghost use Rattle.std.specs.List.{list_all};
 ghost use Rattle.kernel_types.specs.Messages.{is_in_table, is_memory_entry, is_bridge_end, peer_end, has_unsendable_part, blocked_end, with_message, deliver, send};
 ghost use Rattle.kernel_types.specs.Tables.{entry_at, table_of};
-ghost use Rattle.plain_objects.specs.Tests.{part_object, send_with_parts, send_by_end};
+ghost use Rattle.plain_objects.specs.Predicates.{part_object, send_with_parts, send_by_end};
 ghost use Rattle.kernel_types.specs.Objects.{end_changed, end_of};
-ghost use Rattle.plain_calls.specs.Shown.{outcome};
+ghost use Rattle.plain_calls.specs.Outcomes.{outcome};
 
-use crate::connects::number_of_place;
-use crate::told::{Told, gives_with, refuses};
+use crate::connects::to_u32;
+use crate::told::{CallOutcome, gives_with, refuses};
 use kernel_values::{
     Body, Bytes, ChannelEnd, Connector, Copied, CoreState, EndSeq, Errno, Handles, Items, Message,
     NoMemory, ObjId, Object, Reply, Seqs, TableEntry,
@@ -50,7 +50,7 @@ fn are_memories(objects: &[Object], table: &[TableEntry], parts: &[u32]) -> bool
     true
 }
 
-#[tactic(auto, unfolding(plain_objects::specs::Tests::part_object))]
+#[tactic(auto, unfolding(plain_objects::specs::Predicates::part_object))]
 fn part_object(table: &[TableEntry], handle: u32) -> u64
     ensures { result ≡ part_object table.now handle }
 {
@@ -152,7 +152,7 @@ fn deliver(
     peer: Option<u64>,
     bytes: &Bytes,
     parts: &Items<u64>,
-) -> Result<Told, NoMemory>
+) -> Result<CallOutcome, NoMemory>
     ensures { IfOk result (λ told. outcome told core.new ≡ deliver core.old id peer (peer_end core.old.objects peer) bytes.now parts.now) }
 {
     let Some(peer) = peer else {
@@ -166,7 +166,7 @@ fn deliver(
         return Ok(refuses(Errno::NotEnoughBuffer));
     }
     let seq = end.sent;
-    let count = number_of_place(bytes.len())?;
+    let count = to_u32(bytes.len())?;
     add_message(core, peer, bytes, parts)?;
     let seqs = Seqs {
         sent: Some(EndSeq {
@@ -179,7 +179,7 @@ fn deliver(
     Ok(gives_with(Reply::Count(count), seqs))
 }
 
-#[tactic(auto, unfolding(plain_objects::specs::Tests::part_object, plain_objects::specs::Tests::send_with_parts))]
+#[tactic(auto, unfolding(plain_objects::specs::Predicates::part_object, plain_objects::specs::Predicates::send_with_parts))]
 fn send_parts(
     core: &mut CoreState,
     app: u32,
@@ -187,7 +187,7 @@ fn send_parts(
     peer: Option<u64>,
     bytes: &Bytes,
     parts: &[u32],
-) -> Result<Told, NoMemory>
+) -> Result<CallOutcome, NoMemory>
     ensures { IfOk result (λ told. outcome told core.new ≡ send_with_parts core.old id (table_of core.old app) peer bytes.now parts.now) }
 {
     if !are_in_table(table_of(core, app), parts) {
@@ -206,7 +206,7 @@ fn send_from(
     id: u64,
     bytes: &Bytes,
     parts: &[u32],
-) -> Result<Told, NoMemory>
+) -> Result<CallOutcome, NoMemory>
     ensures { IfOk result (λ told. outcome told core.new ≡ send_by_end core.old id (table_of core.old app) bytes.now parts.now (end_of core.old.objects id)) }
 {
     let Some(end) = find_end(core.objects.as_slice(), id) else {
@@ -229,14 +229,14 @@ fn send_from(
 }
 
 /// Sends a message with the memory references that the numbers name.
-#[tactic(auto, unfolding(kernel_types::specs::Messages::send, plain_objects::specs::Tests::send_with_parts))]
+#[tactic(auto, unfolding(kernel_types::specs::Messages::send, plain_objects::specs::Predicates::send_with_parts))]
 pub fn send_call(
     core: &mut CoreState,
     app: u32,
     chan: u32,
     bytes: &Bytes,
     parts: &Handles,
-) -> Result<Told, NoMemory>
+) -> Result<CallOutcome, NoMemory>
     ensures { IfOk result (λ told. outcome told core.new ≡ send core.old app chan bytes.now parts.now) }
 {
     let Some(entry) = find_entry(table_of(core, app), chan) else {

@@ -1,14 +1,14 @@
 //! Threads: they begin to wait, and run again.
 
-ghost use Rattle.plain_calls.specs.Shown.{outcome};
+ghost use Rattle.plain_calls.specs.Outcomes.{outcome};
 ghost use Rattle.std.specs.Prelude.{◌≡◌};
 ghost use Rattle.kernel_types.specs.Threads.{waits_on, with_activity, running_activity};
 
-use crate::told::Told;
+use crate::told::CallOutcome;
 use kernel_values::{Activity, Answer, CoreState, Seqs, Wait, WaitOn};
 
 /// The call of a running thread waits, until the deadline where there is one.
-pub fn begin_to_wait(core: &mut CoreState, thread: u32, on: WaitOn, deadline: Option<u64>) -> Told
+pub fn begin_to_wait(core: &mut CoreState, thread: u32, on: WaitOn, deadline: Option<u64>) -> CallOutcome
     ensures { outcome result core.new ≡ waits_on thread on deadline core.old }
 {
     if let Some(waiter) = core.threads.get_mut(thread as usize) {
@@ -21,7 +21,7 @@ pub fn begin_to_wait(core: &mut CoreState, thread: u32, on: WaitOn, deadline: Op
             waiter.activity = Activity::Waiting { start, wait };
         }
     }
-    Told {
+    CallOutcome {
         answer: Answer::Waits,
         seqs: Seqs {
             sent: None,

@@ -1,13 +1,13 @@
 //! What a call or the end of a wait comes to, beside the state.
 
 ghost use Rattle.std.specs.Prelude.{◌≡◌};
-ghost use Rattle.plain_calls.specs.Shown.{told_gives, told_gives_with, told_refuses};
+ghost use Rattle.plain_calls.specs.Outcomes.{told_gives, told_gives_with, told_refuses};
 
 use kernel_values::{Answer, Errno, Reply, Seqs};
 
 /// An answer, and which messages were sent, opened and retired.
 #[derive(Debug, Drop)]
-pub struct Told {
+pub struct CallOutcome {
     pub answer: Answer,
     pub seqs: Seqs,
 }
@@ -19,27 +19,27 @@ const NO_SEQS: Seqs = Seqs {
 };
 
 /// A reply, and no message.
-pub fn gives(reply: Reply) -> Told
+pub fn gives(reply: Reply) -> CallOutcome
     ensures { result ≡ told_gives reply }
 {
     gives_with(reply, NO_SEQS)
 }
 
 /// A reply, with the messages that were sent, opened and retired.
-pub fn gives_with(reply: Reply, seqs: Seqs) -> Told
+pub fn gives_with(reply: Reply, seqs: Seqs) -> CallOutcome
     ensures { result ≡ told_gives_with reply seqs }
 {
-    Told {
+    CallOutcome {
         answer: Answer::Gives(reply),
         seqs,
     }
 }
 
 /// A refusal, which changes no message.
-pub fn refuses(errno: Errno) -> Told
+pub fn refuses(errno: Errno) -> CallOutcome
     ensures { result ≡ told_refuses errno }
 {
-    Told {
+    CallOutcome {
         answer: Answer::Refuses(errno),
         seqs: NO_SEQS,
     }

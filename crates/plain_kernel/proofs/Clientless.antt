@@ -14,19 +14,18 @@ use Rattle.kernel_values.specs.declared.state.CoreState.{CoreState}
 use Rattle.kernel_values.specs.declared.state.Thread.{Thread}
 use Rattle.kernel_values.specs.declared.call.Call.{Call}
 use Rattle.kernel_values.specs.declared.world.World.{World}
-use Rattle.kernel_types.specs.Built.{is_built}
 use Rattle.kernel_types.specs.CoreStep.{begin_of, cancelled_activity, status_of, core_begin, core_idle, core_resume, idle_answer, least_deadline, resume_of, sooner}
 use Rattle.kernel_types.specs.Device.{device_step}
 use Rattle.kernel_types.specs.Facts.{is_client, is_at_end}
 use Rattle.kernel_types.specs.Waits.{may_move, thread_may_move, thread_movable}
 use Rattle.kernel_types.specs.Outcome.{Outcome, no_seqs}
-use Rattle.kernel_types.specs.Step.{Stepped, begin, beside_core, client_begin, client_number, client_resume, client_movable, device_has_work, device_stepped, full_step, has_begun_and_goes_on, idle, idle_lawful, idle_until, in_world, movable, next_deadline, resume, statuses, step, world_idle}
+use Rattle.kernel_types.specs.Step.{Stepped, begin, beside_core, client_begin, client_number, client_resume, client_movable, device_has_work, device_stepped, step, has_begun_and_goes_on, idle, idle_lawful, idle_until, in_world, movable, next_deadline, resume, statuses, world_idle}
 use Rattle.kernel_types.specs.Sweep.{kept, pruned, sweep}
 use Rattle.kernel_types.specs.Threads.{activity_changed}
-use Rattle.plain_kernel.specs.Alone.{core_statuses, core_idle_lawful, core_step}
-use Rattle.plain_calls.specs.Shown.{outcome_if}
+use Rattle.plain_kernel.specs.CoreSteps.{core_statuses, core_idle_lawful, core_step}
+use Rattle.plain_calls.specs.Outcomes.{outcome_if}
 use Rattle.plain_kernel.specs.Steps.{clientless, idle_outcome, stepped_if, whole}
-use Rattle.plain_calls.specs.declared.told.Told.{Told}
+use Rattle.plain_calls.specs.declared.told.CallOutcome.{CallOutcome}
 
 pub alone_statuses : (core : CoreState) (queue : ℕ) → statuses (whole core queue) ≡ core_statuses core
 unfolding statuses core_statuses clientless
@@ -125,20 +124,19 @@ idles_alone core queue = elim (least_deadline core) as (λ (o : Option ℕ). idl
     ≡ in_world (clientless queue) (record { answer = idle_answer o; seqs = no_seqs; core = sweep (core_idle o core) })) [ None ↦ refl | Some deadline ↦ refl ]
 
 step_alone : (core : CoreState) (queue : ℕ) (e : Event) → step (whole core queue) e ≡ option_map (in_world (clientless queue)) (core_step core e)
-unfolding step full_step core_step
-step_alone core queue (event.Begin actor start call) = elim (is_built call) as (λ b. (cond b (begin (whole core queue) actor.0 start call) None)
-    ≡ option_map (in_world (clientless queue)) (cond b (core_begin core actor.0 start call) None)) [ true ↦ alone_begin core queue actor.0 start call | false ↦ refl ]
+unfolding step core_step
+step_alone core queue (event.Begin actor start call) = alone_begin core queue actor.0 start call
 step_alone core queue (event.Resume actor start) = alone_resume core queue actor.0 start
 step_alone core queue event.Device = ap (option_map device_stepped) (no_device core queue)
 step_alone core queue event.Idle = rw (alone_idle core queue, idles_alone core queue) (elim (core_idle_lawful core) as
     (λ b. (cond b (Some (in_world (clientless queue) (idle_outcome core))) None) ≡ option_map (in_world (clientless queue)) (cond b (Some (idle_outcome core)) None)) [ true ↦ refl | false ↦ refl ])
 
-told_alone : (told : Option Told) (core : CoreState) (world : World) → stepped_if told core world ≡ option_map (in_world world) (outcome_if told core)
+told_alone : (told : Option CallOutcome) (core : CoreState) (world : World) → stepped_if told core world ≡ option_map (in_world world) (outcome_if told core)
 told_alone None core world = refl
 told_alone (Some told) core world = refl
 
 -- what was told of a step of the core is what is told of the step of the whole state
-pub alone_step : (told : Option Told) (core next : CoreState) (queue : ℕ) (e : Event) → outcome_if told next ≡ core_step core e
+pub alone_step : (told : Option CallOutcome) (core next : CoreState) (queue : ℕ) (e : Event) → outcome_if told next ≡ core_step core e
     → stepped_if told next (clientless queue) ≡ step (whole core queue) e
 alone_step told core next queue e is = told_alone told next (clientless queue) ∙ ap (option_map (in_world (clientless queue))) is ∙ sym (step_alone core queue e)
 

@@ -21,7 +21,7 @@ use Rattle.set_laws.proofs.Bridging.{connected_sound, dropped_sound, idled_sound
 use Rattle.set_laws.proofs.Circles.{no_circle}
 use Rattle.set_laws.proofs.Soundness.{openings_sound, steps_keep_sound}
 use Rattle.plain_kernel.specs.declared.kernel.Next.{Next}
-use Rattle.plain_calls.specs.declared.told.Told.{Told}
+use Rattle.plain_calls.specs.declared.told.CallOutcome.{CallOutcome}
 use Rattle.plain_kernel.specs.Orderly.{IsOrderly}
 use Rattle.plain_kernel.specs.Ready.{IsReady}
 use Rattle.plain_kernel.specs.Steps.{clientless, whole, stepped}
@@ -40,12 +40,12 @@ pub opened_orderly : (scene : SceneValue) (core : CoreState) → core ≡ openin
 unfolding opening clientless
 opened_orderly scene core core_is = rw core_is (opening_orderly (without_clients scene))
 
-pub next_orderly : (event : Event) (s : State) (made : ℕ) (next : Next) (told : Told) → IsReady event s made next told → IsOrderly s → IsOrderly (with_core next.core s)
+pub next_orderly : (event : Event) (s : State) (made : ℕ) (next : Next) (told : CallOutcome) → IsReady event s made next told → IsOrderly s → IsOrderly (with_core next.core s)
 next_orderly event s made next told ready kept =
     orderly (with_core next.core s) (steps_within s event (stepped told next.core s.world) kept.within ready.step_is).0
     (steps_keep_sound s event (stepped told next.core s.world) kept.sound ready.step_is)
 
-pub next_fits : (event : Event) (s : State) (made : ℕ) (next : Next) (told : Told) → IsReady event s made next told → IsOrderly s → FitsIn (room_of s event) told.answer
+pub next_fits : (event : Event) (s : State) (made : ℕ) (next : Next) (told : CallOutcome) → IsReady event s made next told → IsOrderly s → FitsIn (room_of s event) told.answer
 next_fits event s made next told ready kept = steps_fit s event (stepped told next.core s.world) kept.within ready.step_is
 
 -- The calls of the bridge.

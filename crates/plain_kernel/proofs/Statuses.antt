@@ -12,7 +12,7 @@ use Rattle.kernel_types.specs.Messages.{free_id, get_message, is_opened_as, peer
 use Rattle.kernel_types.specs.Objects.{end_changed, end_of}
 use Rattle.kernel_types.specs.Outcome.{Outcome, refuses}
 use Rattle.kernel_types.specs.Sweep.{sweep}
-use Rattle.plain_kernel.specs.Alone.{core_statuses}
+use Rattle.plain_kernel.specs.CoreSteps.{core_statuses}
 use Rattle.plain_kernel.proofs.Clientless.{same_statuses, swept_threads}
 
 -- What the bridge drops.

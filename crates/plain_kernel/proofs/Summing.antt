@@ -6,7 +6,7 @@ use Rattle.std.proofs.lemmas.List.Sums.{length-filter, sum_by-cons}
 use Rattle.kernel_values.specs.declared.state.Object.{Object}
 use Rattle.kernel_types.specs.Names.{Name, names_of}
 use Rattle.kernel_laws.specs.Numbers.{RisesFrom}
-use Rattle.plain_objects.specs.Tests.{names_on}
+use Rattle.plain_objects.specs.Predicates.{names_on}
 
 -- the names of other objects
 abbrev others : ℕ → List Name → List Name

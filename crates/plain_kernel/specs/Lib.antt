@@ -1,6 +1,6 @@
-pub mod Alone
+pub mod CoreSteps
 pub mod Bridged
 pub mod Orderly
 pub mod Ready
-pub mod Standing
+pub mod Value
 pub mod Steps

@@ -3,8 +3,8 @@ use Rattle.std.specs.Prelude.{◌≡◌, ◌<◌, ◌≤◌, ℕ, Some, length}
 use Rattle.kernel_values.specs.declared.entry.Event.{Event}
 use Rattle.kernel_values.specs.declared.state.State.{State}
 use Rattle.plain_kernel.specs.declared.kernel.Next.{Next}
-use Rattle.plain_calls.specs.declared.told.Told.{Told}
-use Rattle.plain_kernel.specs.Alone.{core_statuses}
+use Rattle.plain_calls.specs.declared.told.CallOutcome.{CallOutcome}
+use Rattle.plain_kernel.specs.CoreSteps.{core_statuses}
 use Rattle.plain_kernel.specs.Steps.{stepped}
 use Rattle.kernel_types.specs.Kernel.{step_limit}
 use Rattle.kernel_types.specs.Names.{naming}
@@ -17,7 +17,7 @@ pub record IsListed (next : Next) : Type 0 where
   pub statuses : next.statuses ≡ core_statuses next.core
 
 -- the event's step from `s` leads to it
-pub record IsReady (event : Event) (s : State) (made : ℕ) (next : Next) (told : Told) : Type 0 where
+pub record IsReady (event : Event) (s : State) (made : ℕ) (next : Next) (told : CallOutcome) : Type 0 where
   pub step_is : step s event ≡ Some (stepped told next.core s.world)
   pub below : made < step_limit
   pub listed : IsListed next

@@ -3,7 +3,7 @@ use Rattle.std.specs.Prelude.{ℕ, Option, Some, None}
 use Rattle.kernel_values.specs.declared.state.CoreState.{CoreState}
 use Rattle.kernel_values.specs.declared.world.World.{World}
 use Rattle.kernel_values.specs.declared.state.State.{State}
-use Rattle.plain_calls.specs.declared.told.Told.{Told}
+use Rattle.plain_calls.specs.declared.told.CallOutcome.{CallOutcome}
 use Rattle.kernel_types.specs.Opening.{world_without_clients}
 use Rattle.kernel_types.specs.Outcome.{Outcome, no_seqs}
 use Rattle.kernel_types.specs.CoreStep.{least_deadline, core_idle, idle_answer}
@@ -17,10 +17,10 @@ clientless queue = world_without_clients queue
 abbrev pub whole : CoreState → ℕ → State
 whole core queue = record { core = core; world = clientless queue }
 
-abbrev pub stepped : Told → CoreState → World → Stepped
+abbrev pub stepped : CallOutcome → CoreState → World → Stepped
 stepped told core world = record { answer = told.answer; seqs = told.seqs; state = record { core = core; world = world } }
 
-abbrev pub stepped_if : Option Told → CoreState → World → Option Stepped
+abbrev pub stepped_if : Option CallOutcome → CoreState → World → Option Stepped
 stepped_if None core world = None
 stepped_if (Some told) core world = Some (stepped told core world)
 

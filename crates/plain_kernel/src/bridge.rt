@@ -19,7 +19,7 @@ use kernel_values::{
 };
 use plain_calls::applications::{find_start_port, place_of_server};
 use plain_calls::connects::{
-    add_pair, add_waiting, may_serve, number_of_place, start_unless_running,
+    add_pair, add_waiting, may_serve, to_u32, start_unless_running,
 };
 use plain_calls::messages::{open_message, retire, unblock_peer};
 use plain_calls::ports::admits;
@@ -79,7 +79,7 @@ fn connect_to_app(core: &mut CoreState, path: &Bytes) -> Result<Option<Errno>, N
     if !may_serve(server) {
         return Ok(Some(Errno::NotFound));
     }
-    let number = number_of_place(place)?;
+    let number = to_u32(place)?;
     Ok(connect_to_start(core, path, number, start_flags)?)
 }
 

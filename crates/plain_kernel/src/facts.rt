@@ -3,8 +3,8 @@
 ghost use Rattle.std.specs.Prelude.{◌≡◌, OnOk, ◌++◌, map, IfOk, sum_by, not};
 ghost use Rattle.kernel_types.specs.CoreStep.{status_of};
 ghost use Rattle.kernel_types.specs.Step.{has_begun_and_goes_on, is_running};
-ghost use Rattle.plain_kernel.specs.Alone.{core_statuses};
-ghost use Rattle.plain_objects.specs.Tests.{names_on};
+ghost use Rattle.plain_kernel.specs.CoreSteps.{core_statuses};
+ghost use Rattle.plain_objects.specs.Predicates.{names_on};
 ghost use Rattle.kernel_types.specs.Names.{naming};
 ghost use Rattle.kernel_types.specs.Facts.{facts_of};
 ghost use Rattle.kernel_laws.specs.Numbers.{RisesFrom};
@@ -34,7 +34,7 @@ fn add_threads(statuses: &mut Items<ActorStatus>, threads: &[Thread]) -> Result<
 }
 
 /// Every thread's status.
-#[tactic(auto, unfolding(crate::specs::Alone::core_statuses))]
+#[tactic(auto, unfolding(crate::specs::CoreSteps::core_statuses))]
 pub fn statuses_of(core: &CoreState) -> Result<Items<ActorStatus>, NoMemory>
     ensures { IfOk result (λ others. others ≡ core_statuses core.now) }
 {
@@ -44,7 +44,7 @@ pub fn statuses_of(core: &CoreState) -> Result<Items<ActorStatus>, NoMemory>
 }
 
 /// How many entries name this object.
-#[tactic(auto, unfolding(plain_objects::specs::Tests::names_on))]
+#[tactic(auto, unfolding(plain_objects::specs::Predicates::names_on))]
 fn names_on(names: &[Naming], object: &Object) -> u64
     ensures { result ≡ names_on names.now object.now }
 {
@@ -64,7 +64,7 @@ fn sum_names(names: &[Naming], objects: &[Object], next: u64) -> u64
 }
 
 /// The clock, the number of objects, and the sum of their names.
-#[tactic(auto, unfolding(plain_objects::specs::Tests::names_on))]
+#[tactic(auto, unfolding(plain_objects::specs::Predicates::names_on))]
 pub fn facts_of(core: &CoreState, names: &[Naming]) -> EndFacts
     requires numbers { RisesFrom 0 core.now.objects core.now.next }
     requires names { names.now ≡ naming core.now }

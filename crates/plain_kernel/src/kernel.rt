@@ -5,13 +5,13 @@ ghost use Rattle.kernel_types.specs.Bridge.{ns_connect, ns_push, ns_view};
 ghost use Rattle.kernel_types.specs.Bridging.{NsCauseHolds};
 ghost use Rattle.kernel_types.specs.Step.{step};
 ghost use Rattle.plain_kernel.specs.Steps.{stepped_if, clientless, whole};
-ghost use Rattle.plain_kernel.specs.Alone.{core_idle_lawful};
+ghost use Rattle.plain_kernel.specs.CoreSteps.{core_idle_lawful};
 ghost use Rattle.plain_kernel.specs.Bridged.{pushed};
 ghost use Rattle.kernel_types.specs.Opening.{opening, without_clients};
 ghost use Rattle.kernel_types.specs.Kernel.{status_for, CauseHolds, step_limit};
 ghost use Rattle.plain_kernel.specs.Orderly.{IsOrderly};
 ghost use Rattle.plain_kernel.specs.Ready.{IsReady, IsListed};
-ghost use Rattle.plain_kernel.specs.Standing.{state_of, no_client};
+ghost use Rattle.plain_kernel.specs.Value.{state_of, no_client};
 
 use crate::bridge;
 use crate::facts::{any_goes_on, any_runs, facts_of, none_goes_on, statuses_of};
@@ -22,7 +22,7 @@ use kernel_values::{
     ActorId, ActorStatus, Bytes, Copied, CoreState, EndFacts, EndSeq, Entry, Event, Events, Items,
     NoMemory, ObjId, Scene,
 };
-use plain_calls::told::Told;
+use plain_calls::told::CallOutcome;
 use plain_objects::names::count_names;
 use plain_objects::objects::is_object_there;
 use plain_objects::survey::Survey;
@@ -47,12 +47,12 @@ pub struct PlainKernel {
 impl Model for PlainKernel {
     ghost use Rattle.std.specs.Prelude.{◌≡◌, ◌≤◌, length};
     ghost use Rattle.plain_kernel.specs.Orderly.{IsOrderly};
-    ghost use Rattle.plain_kernel.specs.Standing.{Standing};
+    ghost use Rattle.plain_kernel.specs.Value.{PlainValue};
     ghost use Rattle.plain_kernel.specs.Steps.{whole};
     ghost use Rattle.kernel_types.specs.Names.{naming};
-    ghost use Rattle.plain_kernel.specs.Alone.{core_statuses};
+    ghost use Rattle.plain_kernel.specs.CoreSteps.{core_statuses};
 
-    ghost Value = { Standing };
+    ghost Value = { PlainValue };
 
     ghost view = { λ k. record { core = k.core; queue = k.queue; made = k.made } };
 
@@ -121,7 +121,7 @@ impl PlainKernel {
         self.made += 1;
     }
 
-    #[tactic(auto, unfolding(crate::specs::Alone::core_idle_lawful))]
+    #[tactic(auto, unfolding(crate::specs::CoreSteps::core_idle_lawful))]
     fn is_idle(&self) -> bool
         ensures { result ≡ core_idle_lawful self.now.core }
     {
@@ -147,7 +147,7 @@ impl PlainKernel {
 
     #[tactic(auto, using(crate::proofs::Clientless::alone_step))]
     /// What the event tells in a copy of the state, with the copy.
-    fn try_event(&self, event: &Event) -> Result<(CoreState, Option<Told>), NoMemory>
+    fn try_event(&self, event: &Event) -> Result<(CoreState, Option<CallOutcome>), NoMemory>
         ensures { IfOk result (λ (core, told). stepped_if told core (clientless self.now.queue) ≡ step (state_of self.now) event.now) }
     {
         let is_idle = self.is_idle();
@@ -162,7 +162,7 @@ impl PlainKernel {
     }
 
     #[tactic(auto, unfolding(kernel_types::specs::Kernel::step_limit))]
-    fn try_step(&self, event: &Event) -> Result<(Next, Told), StepCause>
+    fn try_step(&self, event: &Event) -> Result<(Next, CallOutcome), StepCause>
         ensures done { IfOk result (λ (next, told). IsReady event.now (state_of self.now) self.now.made next told) }
         ensures refused { IfErr result (λ cause. CauseHolds event.now (state_of self.now) self.now.made cause) }
     {

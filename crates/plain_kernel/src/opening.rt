@@ -2,7 +2,7 @@
 
 ghost use Rattle.std.specs.Prelude.{IfOk, ◌≡◌, map, OnOk, ◌++◌};
 ghost use Rattle.kernel_types.specs.Opening.{opening_app, opening_activity, opening_core};
-ghost use Rattle.plain_objects.specs.Tests.{place_threads};
+ghost use Rattle.plain_objects.specs.Predicates.{place_threads};
 ghost use Rattle.std.specs.List.{flat_map, enumerate_from};
 
 use kernel_values::{
@@ -44,7 +44,7 @@ fn opening_activity(manifest: &Manifest) -> Activity
 }
 
 /// A thread for each script of the application at this place.
-#[tactic(auto, unfolding(plain_objects::specs::Tests::place_threads))]
+#[tactic(auto, unfolding(plain_objects::specs::Predicates::place_threads))]
 fn add_threads(threads: &mut Items<Thread>, place: u32, app: &App) -> Result<(), NoMemory>
     ensures { OnOk result (threads.new ≡ threads.old ++ place_threads (place, app.now)) }
 {
@@ -74,7 +74,7 @@ fn opening_threads(alloc: Global, apps: &[App]) -> Result<Items<Thread>, NoMemor
 }
 
 /// The state of the kernel: the clock is 0, and there are no objects.
-#[tactic(auto, unfolding(plain_objects::specs::Tests::place_threads))]
+#[tactic(auto, unfolding(plain_objects::specs::Predicates::place_threads))]
 pub fn opening_core(alloc: Global, apps: &[App]) -> Result<CoreState, NoMemory>
     ensures { IfOk result (λ core. core ≡ opening_core apps.now) }
 {

@@ -1,13 +1,12 @@
 //! One step: which events are lawful, and what each answers and leaves.
 
 ghost use Rattle.std.specs.Prelude.{◌≡◌, IfOk, map};
-ghost use Rattle.kernel_types.specs.Built.{is_built};
-ghost use Rattle.plain_calls.specs.Shown.{outcome_if, outcome};
+ghost use Rattle.plain_calls.specs.Outcomes.{outcome_if, outcome};
 ghost use Rattle.kernel_types.specs.CoreStep.{act, core_begin, core_resume, deadline_in, sooner, least_deadline_of, least_deadline, cancelled_activity, core_idle, idle_answer};
 ghost use Rattle.kernel_types.specs.Objects.{map_at};
 ghost use Rattle.kernel_types.specs.Threads.{activity_changed};
 ghost use Rattle.plain_kernel.specs.Steps.{idle_outcome};
-ghost use Rattle.plain_kernel.specs.Alone.{core_step, core_idle_lawful};
+ghost use Rattle.plain_kernel.specs.CoreSteps.{core_step, core_idle_lawful};
 
 use kernel_values::{Activity, Answer, Call, CoreState, Event, Items, NoMemory, Seqs, Thread};
 use plain_calls::accepts::accept_call;
@@ -19,22 +18,11 @@ use plain_calls::messages::{get_call, put_call, read_call};
 use plain_calls::ports::port_create_call;
 use plain_calls::sends::send_call;
 use plain_calls::threads::run_again;
-use plain_calls::told::Told;
+use plain_calls::told::CallOutcome;
 use plain_objects::sweep::sweep_state;
 use plain_waits::sets::{set_add_call, set_create_call, set_del_call, set_mod_call};
 use plain_waits::wait_calls::{wait_any_call, wait_call};
 use plain_waits::waits::end_wait;
-
-/// Whether the call has a body: those of a hostile client have none yet.
-fn is_built_call(call: &Call) -> bool
-    ensures { result ≡ is_built call.now }
-{
-    match call {
-        Call::NsPoke { addr: _, bytes: _ } => false,
-        Call::NsKick { queue: _, head: _ } => false,
-        _ => true,
-    }
-}
 
 /// The call of a thread of `app`; the calls of the normal world are none.
 #[tactic(auto, unfolding(kernel_types::specs::CoreStep::act))]
@@ -43,7 +31,7 @@ fn act_on(
     thread: u32,
     app: u32,
     call: &Call,
-) -> Result<Option<Told>, NoMemory>
+) -> Result<Option<CallOutcome>, NoMemory>
     ensures { IfOk result (λ told. outcome_if told core.new ≡ act core.old thread app call.now) }
 {
     let told = match call {
@@ -112,7 +100,7 @@ fn begin(
     thread: u32,
     start: u32,
     call: &Call,
-) -> Result<Option<Told>, NoMemory>
+) -> Result<Option<CallOutcome>, NoMemory>
     ensures { IfOk result (λ told. outcome_if told core.new ≡ core_begin core.old thread start call.now) }
 {
     let Some(caller) = core.threads.get(thread as usize) else {
@@ -137,7 +125,7 @@ fn begin(
 
 /// The end of a wait of a thread, by its present start: the thread runs again.
 #[tactic(auto, unfolding(kernel_types::specs::CoreStep::core_resume))]
-fn resume(core: &mut CoreState, thread: u32, start: u32) -> Result<Option<Told>, NoMemory>
+fn resume(core: &mut CoreState, thread: u32, start: u32) -> Result<Option<CallOutcome>, NoMemory>
     ensures { IfOk result (λ told. outcome_if told core.new ≡ core_resume core.old thread start) }
 {
     let Some(waiter) = core.threads.get(thread as usize) else {
@@ -243,13 +231,13 @@ fn idle_answer(deadline: Option<u64>) -> Answer
 }
 
 /// Nothing else can move.
-fn idle(core: &mut CoreState) -> Result<Told, NoMemory>
+fn idle(core: &mut CoreState) -> Result<CallOutcome, NoMemory>
     ensures { IfOk result (λ told. outcome told core.new ≡ idle_outcome core.old) }
 {
     let deadline = least_deadline(core);
     idle_by(core, deadline);
     sweep_state(core)?;
-    Ok(Told {
+    Ok(CallOutcome {
         answer: idle_answer(deadline),
         seqs: Seqs {
             sent: None,
@@ -260,23 +248,17 @@ fn idle(core: &mut CoreState) -> Result<Told, NoMemory>
 }
 
 /// The step of an event, where it is lawful; `is_idle` says whether Idle is.
-#[tactic(auto, unfolding(crate::specs::Alone::core_step))]
+#[tactic(auto, unfolding(crate::specs::CoreSteps::core_step))]
 pub fn run_event(
     core: &mut CoreState,
     event: &Event,
     is_idle: bool,
-) -> Result<Option<Told>, NoMemory>
+) -> Result<Option<CallOutcome>, NoMemory>
     requires { is_idle ≡ core_idle_lawful core.old }
     ensures { IfOk result (λ told. outcome_if told core.new ≡ core_step core.old event.now) }
 {
     match event {
-        Event::Begin { actor, start, call } => {
-            if is_built_call(call) {
-                begin(core, actor.0, *start, call)
-            } else {
-                Ok(None)
-            }
-        }
+        Event::Begin { actor, start, call } => begin(core, actor.0, *start, call),
         Event::Resume { actor, start } => resume(core, actor.0, *start),
         Event::Device => Ok(None),
         Event::Idle => {

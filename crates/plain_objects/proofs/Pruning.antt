@@ -11,7 +11,7 @@ use Rattle.kernel_types.specs.Objects.{as_end, as_port, end_in, end_of, map_at, 
 use Rattle.kernel_types.specs.Sweep.{has_marked_peer, pruned_port}
 use Rattle.kernel_laws.proofs.Found.{found, found_is}
 use Rattle.plain_objects.specs.Pending.{pending_at, pending_of, with_pending}
-use Rattle.plain_objects.specs.Tests.{is_served}
+use Rattle.plain_objects.specs.Predicates.{is_served}
 use Rattle.plain_objects.proofs.Changing.{changed_alike, changed_twice, filtered_alike, later_changed, mapped_more}
 
 -- A change of ports leaves the ends.

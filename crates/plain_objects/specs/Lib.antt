@@ -1,4 +1,4 @@
 pub mod Counting
 pub mod Pending
 pub mod Surveys
-pub mod Tests
+pub mod Predicates

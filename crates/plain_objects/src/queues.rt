@@ -6,7 +6,7 @@ ghost use Rattle.std.specs.List.{find, position_or_len, filter};
 ghost use Rattle.kernel_types.specs.Events.{is_filled};
 ghost use Rattle.kernel_types.specs.Messages.{is_opened_as, is_free_id, free_id};
 ghost use Rattle.plain_objects.specs.Counting.{free_id_below};
-ghost use Rattle.plain_objects.specs.Tests.{is_another};
+ghost use Rattle.plain_objects.specs.Predicates.{is_another};
 
 use kernel_values::{Items, Message, NoMemory};
 
@@ -100,7 +100,7 @@ pub fn least_free_id(messages: &[Message]) -> Result<u32, NoMemory>
 }
 
 /// Whether the message is not the one that is open under this id.
-#[tactic(auto, unfolding(crate::specs::Tests::is_another))]
+#[tactic(auto, unfolding(crate::specs::Predicates::is_another))]
 fn is_another(message: &Message, id: u32) -> bool
     ensures { result ≡ is_another id message.now }
 {

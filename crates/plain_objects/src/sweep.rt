@@ -3,7 +3,7 @@
 ghost use Rattle.std.specs.Prelude.{◌≡◌, ◌≤◌, [], map, length, OnOk};
 ghost use Rattle.kernel_types.specs.Names.{naming};
 ghost use Rattle.kernel_types.specs.Sweep.{is_live, is_marked, pruned_port, pruned, cut_end, kept, sweep};
-ghost use Rattle.plain_objects.specs.Tests.{is_served, is_kept};
+ghost use Rattle.plain_objects.specs.Predicates.{is_served, is_kept};
 ghost use Rattle.std.specs.List.{filter};
 ghost use Rattle.kernel_types.specs.Objects.{map_at, on_body, on_port, on_end};
 ghost use Rattle.plain_objects.specs.Pending.{pending_at, with_pending};
@@ -33,7 +33,7 @@ fn is_marked(marked: &[u64], object: Option<u64>) -> bool
 }
 
 /// Whether the peer of a pending server end is marked.
-#[tactic(auto, unfolding(crate::specs::Tests::is_served))]
+#[tactic(auto, unfolding(crate::specs::Predicates::is_served))]
 fn is_served(marked: &[u64], objects: &[Object], server: u64) -> bool
     ensures { result ≡ is_served marked.now objects.now server }
 {
@@ -122,14 +122,14 @@ fn cut_all(marked: &[u64], objects: &mut Items<Object>)
 }
 
 /// The marked objects stay.
-#[tactic(auto, unfolding(crate::specs::Tests::is_kept))]
+#[tactic(auto, unfolding(crate::specs::Predicates::is_kept))]
 fn keep_marked(marked: &[u64], objects: &mut Items<Object>)
     ensures { objects.new ≡ filter (is_kept marked.now) objects.old }
 {
     objects.retain(|object| is_in(marked, object.id));
 }
 
-#[tactic(auto, unfolding(kernel_types::specs::Sweep::kept, crate::specs::Tests::is_kept))]
+#[tactic(auto, unfolding(kernel_types::specs::Sweep::kept, crate::specs::Predicates::is_kept))]
 fn keep(core: &mut CoreState, marked: &[u64])
     ensures { core.new ≡ kept marked.now core.old }
 {

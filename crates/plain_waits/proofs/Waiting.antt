@@ -12,7 +12,7 @@ use Rattle.kernel_values.specs.declared.state.Wait.{Wait}
 use Rattle.kernel_types.specs.Reports.{Reported, has_events, in_turn}
 use Rattle.kernel_types.specs.Waits.{end_by_report, is_due}
 use Rattle.kernel_types.specs.Outcome.{refuses}
-use Rattle.plain_objects.specs.Tests.{is_later_entry, is_earlier_entry}
+use Rattle.plain_objects.specs.Predicates.{is_later_entry, is_earlier_entry}
 
 one_of_two : {X : Type 0} (x y : X) (b d : Bool) → is_some (if b then Some x else if d then Some y else None) ≡ (b || d)
 one_of_two x y true d = refl

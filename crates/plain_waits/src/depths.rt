@@ -3,7 +3,7 @@
 ghost use Rattle.std.specs.Prelude.{◌≡◌, ◌≤◌, map, ◌==◌};
 ghost use Rattle.kernel_types.specs.Events.{chain_limit};
 ghost use Rattle.kernel_types.specs.Sets.{depth_below, greatest, depth_above, chain_through};
-ghost use Rattle.plain_objects.specs.Tests.{holds_member};
+ghost use Rattle.plain_objects.specs.Predicates.{holds_member};
 ghost use Rattle.std.specs.List.{list_any, filter};
 
 use kernel_values::{Body, Member, Object};
@@ -46,7 +46,7 @@ fn greatest_below(limit: u32, objects: &[Object], members: &[Member]) -> u32
     most
 }
 
-#[tactic(auto, unfolding(plain_objects::specs::Tests::holds_member))]
+#[tactic(auto, unfolding(plain_objects::specs::Predicates::holds_member))]
 fn has_member(object: &Object, id: u64) -> bool
     ensures { result ≡ holds_member id object.now }
 {
@@ -69,7 +69,7 @@ fn is_member(members: &[Member], id: u64) -> bool
 
 /// The number of sets on the longest chain down to a set, itself included, up to a limit.
 #[cycle(above)]
-#[tactic(auto, using(crate::proofs::Descending::depth_above_less), unfolding(plain_objects::specs::Tests::holds_member))]
+#[tactic(auto, using(crate::proofs::Descending::depth_above_less), unfolding(plain_objects::specs::Predicates::holds_member))]
 fn depth_above(limit: u32, objects: &[Object], id: u64) -> u32
     ensures value { result ≡ depth_above limit objects.now id }
     ensures bound { result ≤ limit }

@@ -6,7 +6,7 @@ ghost use Rattle.kernel_types.specs.Events.{has_event, masked_events, events_of,
 ghost use Rattle.kernel_types.specs.Reports.{reported_end, cleared, with_last, member_report, plain_report, set_or_plain_report, last_of, has_events, with_last_reported, any_report, report_of};
 ghost use Rattle.std.specs.List.{find, filter};
 ghost use Rattle.kernel_types.specs.Objects.{set_changed, set_of};
-ghost use Rattle.plain_objects.specs.Tests.{is_later_entry, is_earlier_entry, entry_in_turn};
+ghost use Rattle.plain_objects.specs.Predicates.{is_later_entry, is_earlier_entry, entry_in_turn};
 ghost use Rattle.std.specs.Option.{is_some};
 
 use crate::events::events_of;
@@ -194,7 +194,7 @@ fn last_of(core: &CoreState, app: u32) -> Option<u32>
 }
 
 /// Whether the entry comes after the number last reported.
-#[tactic(auto, unfolding(plain_objects::specs::Tests::is_later_entry))]
+#[tactic(auto, unfolding(plain_objects::specs::Predicates::is_later_entry))]
 fn is_later_entry(last: Option<u32>, entry: &TableEntry) -> bool
     ensures { result ≡ is_later_entry last entry.now }
 {
@@ -204,7 +204,7 @@ fn is_later_entry(last: Option<u32>, entry: &TableEntry) -> bool
     }
 }
 
-#[tactic(auto, unfolding(plain_objects::specs::Tests::is_later_entry, plain_objects::specs::Tests::is_earlier_entry))]
+#[tactic(auto, unfolding(plain_objects::specs::Predicates::is_later_entry, plain_objects::specs::Predicates::is_earlier_entry))]
 fn is_earlier_entry(last: Option<u32>, entry: &TableEntry) -> bool
     ensures { result ≡ is_earlier_entry last entry.now }
 {
@@ -240,7 +240,7 @@ fn find_earlier(objects: &[Object], table: &[TableEntry], last: Option<u32>) -> 
 }
 
 /// The entry that a `waitany` would report.
-#[tactic(auto, using(crate::proofs::Waiting::first_in_turn), unfolding(plain_objects::specs::Tests::entry_in_turn))]
+#[tactic(auto, using(crate::proofs::Waiting::first_in_turn), unfolding(plain_objects::specs::Predicates::entry_in_turn))]
 fn find_entry_in_turn(core: &CoreState, app: u32) -> Option<TableEntry>
     ensures { result ≡ entry_in_turn core.now app }
 {
@@ -258,7 +258,7 @@ fn set_last(core: &mut CoreState, app: u32, handle: u32)
     }
 }
 
-#[tactic(auto, unfolding(plain_objects::specs::Tests::entry_in_turn))]
+#[tactic(auto, unfolding(plain_objects::specs::Predicates::entry_in_turn))]
 fn report_any(core: &mut CoreState, app: u32) -> Option<Report>
     ensures told { reported_if result core.new ≡ any_report core.old app }
     ensures kept { kept_if result core.old core.new }
@@ -311,7 +311,7 @@ fn has_object_report(core: &CoreState, id: u64, handle: u32, cookie: u64) -> boo
     }
 }
 
-#[tactic(auto, unfolding(plain_objects::specs::Tests::entry_in_turn))]
+#[tactic(auto, unfolding(plain_objects::specs::Predicates::entry_in_turn))]
 fn has_any_report(core: &CoreState, app: u32) -> bool
     ensures { result ≡ is_some (any_report core.now app) }
 {

@@ -1,14 +1,14 @@
 //! `set`, `add`, `del` and `mod`: handle sets.
 
 ghost use Rattle.std.specs.Prelude.{IfOk, ◌≡◌, OnOk, not};
-ghost use Rattle.plain_calls.specs.Shown.{outcome};
+ghost use Rattle.plain_calls.specs.Outcomes.{outcome};
 ghost use Rattle.kernel_types.specs.Sets.{set_create, is_label_in, has_label, with_member, set_add_to, set_add, without_label, set_del, remasked, set_mod};
 ghost use Rattle.std.specs.List.{position_or_len, filter};
 ghost use Rattle.kernel_types.specs.Objects.{set_changed, set_of};
 
 use crate::depths::{chain_limit, chain_through};
 use kernel_values::{Body, CoreState, Errno, Events, HandleSet, Items, Member, NoMemory, Reply};
-use plain_calls::told::{Told, gives, refuses};
+use plain_calls::told::{CallOutcome, gives, refuses};
 use plain_objects::memberships::is_or_contains;
 use plain_objects::objects::{add_object, find_memory, find_set, place_of_object};
 use plain_objects::tables::{find_entry, install, is_full_table, least_free_handle, table_of};
@@ -16,7 +16,7 @@ use std::alloc::Global;
 
 /// Makes an empty set.
 #[tactic(auto, unfolding(kernel_types::specs::Sets::set_create))]
-pub fn set_create_call(core: &mut CoreState, app: u32) -> Result<Told, NoMemory>
+pub fn set_create_call(core: &mut CoreState, app: u32) -> Result<CallOutcome, NoMemory>
     ensures { IfOk result (λ told. outcome told core.new ≡ set_create core.old app) }
 {
     if is_full_table(table_of(core, app)) {
@@ -65,7 +65,7 @@ fn add_member(core: &mut CoreState, id: u64, member: Member) -> Result<(), NoMem
     Ok(())
 }
 
-fn set_add_to(core: &mut CoreState, id: u64, member: Member) -> Result<Told, NoMemory>
+fn set_add_to(core: &mut CoreState, id: u64, member: Member) -> Result<CallOutcome, NoMemory>
     ensures { IfOk result (λ told. outcome told core.new ≡ set_add_to core.old id (set_of core.old.objects id) member) }
 {
     let objects = core.objects.as_slice();
@@ -100,7 +100,7 @@ pub fn set_add_call(
     handle: u32,
     mask: Events,
     cookie: u64,
-) -> Result<Told, NoMemory>
+) -> Result<CallOutcome, NoMemory>
     ensures { IfOk result (λ told. outcome told core.new ≡ set_add core.old app set handle mask cookie) }
 {
     let Some(outer) = find_entry(table_of(core, app), set) else {
@@ -146,7 +146,7 @@ fn remove_member(core: &mut CoreState, id: u64, label: u32) -> Result<(), NoMemo
 
 /// Takes the member under this label away.
 #[tactic(auto, unfolding(kernel_types::specs::Sets::set_del))]
-pub fn set_del_call(core: &mut CoreState, app: u32, set: u32, label: u32) -> Result<Told, NoMemory>
+pub fn set_del_call(core: &mut CoreState, app: u32, set: u32, label: u32) -> Result<CallOutcome, NoMemory>
     ensures { IfOk result (λ told. outcome told core.new ≡ set_del core.old app set label) }
 {
     let Some(entry) = find_entry(table_of(core, app), set) else {
@@ -192,7 +192,7 @@ pub fn set_mod_call(
     label: u32,
     mask: Events,
     cookie: u64,
-) -> Result<Told, NoMemory>
+) -> Result<CallOutcome, NoMemory>
     ensures { IfOk result (λ told. outcome told core.new ≡ set_mod core.old app set label mask cookie) }
 {
     let Some(entry) = find_entry(table_of(core, app), set) else {

@@ -2,13 +2,13 @@
 
 ghost use Rattle.std.specs.Prelude.{IfOk, ◌≡◌};
 ghost use Rattle.kernel_types.specs.Waits.{deadline_of, is_zero_timeout, begin_wait, wait, can_have_events, wait_any};
-ghost use Rattle.plain_calls.specs.Shown.{outcome};
+ghost use Rattle.plain_calls.specs.Outcomes.{outcome};
 ghost use Rattle.std.specs.List.{list_any};
 
 use crate::reports::{event_reply, take_report};
 use kernel_values::{CoreState, Errno, NoMemory, Object, TableEntry, Timeout, WaitOn};
 use plain_calls::threads::begin_to_wait;
-use plain_calls::told::{Told, gives, refuses};
+use plain_calls::told::{CallOutcome, gives, refuses};
 use plain_objects::objects::{find_memory, is_object_there, later};
 use plain_objects::tables::{find_entry, table_of};
 
@@ -38,7 +38,7 @@ fn begin_wait(
     app: u32,
     on: WaitOn,
     timeout: Timeout,
-) -> Result<Told, NoMemory>
+) -> Result<CallOutcome, NoMemory>
     ensures { IfOk result (λ told. outcome told core.new ≡ begin_wait core.old thread app on timeout) }
 {
     if let Some(found) = take_report(core, app, on)? {
@@ -59,7 +59,7 @@ pub fn wait_call(
     app: u32,
     handle: u32,
     timeout: Timeout,
-) -> Result<Told, NoMemory>
+) -> Result<CallOutcome, NoMemory>
     ensures { IfOk result (λ told. outcome told core.new ≡ wait core.old thread app handle timeout) }
 {
     let Some(entry) = find_entry(table_of(core, app), handle) else {
@@ -100,7 +100,7 @@ pub fn wait_any_call(
     thread: u32,
     app: u32,
     timeout: Timeout,
-) -> Result<Told, NoMemory>
+) -> Result<CallOutcome, NoMemory>
     ensures { IfOk result (λ told. outcome told core.new ≡ wait_any core.old thread app timeout) }
 {
     if !any_can_have_events(core.objects.as_slice(), table_of(core, app)) {

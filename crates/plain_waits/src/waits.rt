@@ -2,7 +2,7 @@
 
 ghost use Rattle.std.specs.Prelude.{◌≡◌, IfOk};
 ghost use Rattle.kernel_types.specs.Waits.{is_due, end_by_report, end_of_wait, thread_may_move, thread_movable};
-ghost use Rattle.plain_calls.specs.Shown.{outcome_if};
+ghost use Rattle.plain_calls.specs.Outcomes.{outcome_if};
 ghost use Rattle.kernel_types.specs.Reports.{report_of};
 ghost use Rattle.std.specs.Option.{is_some};
 ghost use Rattle.std.specs.List.{list_any};
@@ -10,7 +10,7 @@ ghost use Rattle.std.specs.List.{list_any};
 use crate::reports::{event_reply, has_report, take_report};
 use kernel_values::{Activity, CoreState, Errno, NoMemory, Thread, Wait, WaitOn};
 use plain_calls::accepts::{decide_connect, is_connect_decided};
-use plain_calls::told::{Told, gives, refuses};
+use plain_calls::told::{CallOutcome, gives, refuses};
 
 fn is_due(clock: u64, deadline: Option<u64>) -> bool
     ensures { result ≡ is_due clock deadline }
@@ -22,7 +22,7 @@ fn is_due(clock: u64, deadline: Option<u64>) -> bool
 }
 
 /// The wait ends by a report, or else because it was cancelled or is over.
-fn end_by_report(core: &mut CoreState, app: u32, wait: Wait) -> Result<Option<Told>, NoMemory>
+fn end_by_report(core: &mut CoreState, app: u32, wait: Wait) -> Result<Option<CallOutcome>, NoMemory>
     ensures { IfOk result (λ told. outcome_if told core.new ≡ end_by_report core.old wait (report_of core.old app wait.on)) }
 {
     if let Some(found) = take_report(core, app, wait.on)? {
@@ -39,7 +39,7 @@ fn end_by_report(core: &mut CoreState, app: u32, wait: Wait) -> Result<Option<To
 
 /// The end of a wait of a thread of `app`, where it may end.
 #[tactic(auto, unfolding(kernel_types::specs::Waits::end_of_wait))]
-pub fn end_wait(core: &mut CoreState, app: u32, wait: Wait) -> Result<Option<Told>, NoMemory>
+pub fn end_wait(core: &mut CoreState, app: u32, wait: Wait) -> Result<Option<CallOutcome>, NoMemory>
     ensures { IfOk result (λ told. outcome_if told core.new ≡ end_of_wait core.old app wait) }
 {
     match wait.on {

@@ -8,7 +8,7 @@ use Rattle.kernel_values.specs.declared.state.HandleSet.{HandleSet}
 use Rattle.kernel_types.specs.Objects.{set_of, as_set, set_in, object_of}
 use Rattle.kernel_types.specs.Events.{events_of, events_within, object_events, body_events, chain_limit, is_ready_member, where_marked, ready_event}
 use Rattle.set_laws.specs.Chains.{HasShortChains}
-use Rattle.handle_set.specs.declared.records.Told.{Told}
+use Rattle.handle_set.specs.declared.records.TrackedMember.{TrackedMember}
 use Rattle.handle_set.specs.declared.settle.OpenSet.{OpenSet}
 use Rattle.handle_set.specs.Sets.{ready_events, is_ready_by, IsOfSets}
 use Rattle.handle_set.specs.Chains.{member_of, set_value}
@@ -24,7 +24,7 @@ pub set_events : (events : ℕ → ℕ) (set : HandleSet) (o : Option Object) �
 set_events events set None is = absurd (cc)
 set_events events set (Some object) is = set_body events set object.body is
 
-any_member : (events : ℕ → ℕ) (members : List Told) → list_any (is_ready_member events) (map member_of members) ≡ list_any (is_ready_by events) members
+any_member : (events : ℕ → ℕ) (members : List TrackedMember) → list_any (is_ready_member events) (map member_of members) ≡ list_any (is_ready_by events) members
 any_member events [] = refl
 any_member events (x ∷ xs) = rw (any_member events xs) refl
 

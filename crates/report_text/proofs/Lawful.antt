@@ -21,7 +21,7 @@ use Rattle.kernel_values.specs.declared.entry.ActorStatus.TheVariants as status
 use Rattle.kernel_types.specs.History.{step_entry, entry_of, next_state, state_or}
 use Rattle.kernel_types.specs.Opening.{opening, opening_threads, opening_activity, opening_client}
 use Rattle.kernel_types.specs.Facts.{status_at}
-use Rattle.kernel_types.specs.Step.{Stepped, step, full_step, is_built_event, statuses}
+use Rattle.kernel_types.specs.Step.{Stepped, step, statuses}
 use Rattle.kernel_types.proofs.Actors.{begin_is_of_running, resume_is_of_waiting}
 use Rattle.kernel_laws.specs.Actors.{HasSameActors, kinds}
 use Rattle.kernel_laws.proofs.SameActors.{one_status_each, steps_keep}
@@ -41,26 +41,20 @@ mapped : {X Y : Type 0} (f : X → Y) (o : Option X) (y : Y) → option_map f o 
 mapped f None y h = absurd (cc)
 mapped f (Some x) y h = (x, refl)
 
-built : (t : Bool) (o : Option Stepped) (r : Stepped) → cond t o None ≡ Some r → o ≡ Some r
-built true o r h = h
-built false o r h = absurd (cc)
-
 -- the step that an entry is of
-pub stepped : (s : State) (e : Event) (entry : Entry) → step_entry s e ≡ Some entry → (r : Stepped) × (full_step s e ≡ Some r)
-unfolding step
-stepped s e entry h =
-    let found : (r : Stepped) × (step s e ≡ Some r) = mapped (entry_of e) (step s e) entry h in (found.0, built (is_built_event e) (full_step s e) found.0 found.1)
+pub stepped : (s : State) (e : Event) (entry : Entry) → step_entry s e ≡ Some entry → (r : Stepped) × (step s e ≡ Some r)
+stepped s e entry h = mapped (entry_of e) (step s e) entry h
 
 pub begins : (s : State) (actor start : ℕ) (asked : Call) (entry : Entry) → step_entry s (event.Begin (record { 0 = actor }) start asked) ≡ Some entry → IsActive s actor start
-unfolding full_step
+unfolding step
 begins s actor start asked entry h =
-    let found : (r : Stepped) × (full_step s (event.Begin (record { 0 = actor }) start asked) ≡ Some r) = stepped s (event.Begin (record { 0 = actor }) start asked) entry h in
+    let found : (r : Stepped) × (step s (event.Begin (record { 0 = actor }) start asked) ≡ Some r) = stepped s (event.Begin (record { 0 = actor }) start asked) entry h in
     record { start_is = ap start_in (begin_is_of_running s actor start asked found.0 found.1) }
 
 pub resumes : (s : State) (actor start : ℕ) (entry : Entry) → step_entry s (event.Resume (record { 0 = actor }) start) ≡ Some entry → IsActive s actor start
-unfolding full_step
+unfolding step
 resumes s actor start entry h =
-    let found : (r : Stepped) × (full_step s (event.Resume (record { 0 = actor }) start) ≡ Some r) = stepped s (event.Resume (record { 0 = actor }) start) entry h in
+    let found : (r : Stepped) × (step s (event.Resume (record { 0 = actor }) start) ≡ Some r) = stepped s (event.Resume (record { 0 = actor }) start) entry h in
     record { start_is = ap start_in (resume_is_of_waiting s actor start found.0 found.1) }
 
 -- an actor is in one start at a time

@@ -4,7 +4,8 @@ use Rattle.std.proofs.lemmas.Bool.Decides.{nat_tests}
 use Rattle.std.specs.Prelude.{slice_get, ◌==◌}
 use Rattle.std.specs.List.{AllByRecursion, list_all, flat_map, fold, cons_option}
 use mathlib.Core.List.{IsPrefix}
-use Rattle.kernel_values.specs.Commands.{can_be_spelled, is_thread_call, is_client_call}
+use Rattle.kernel_values.specs.Commands.{can_be_spelled}
+use Rattle.kernel_values.specs.CallKinds.{is_thread_call, is_client_call}
 use Rattle.kernel_values.specs.SceneLaw.{SceneValue, IsLawfulScene, scripts_of, is_lawful_app, is_lawful_client, is_lawful_thread_command, is_lawful_client_command}
 use Rattle.kernel_values.specs.declared.call.Call.{Call}
 use Rattle.kernel_values.specs.declared.call.Call.TheVariants as call

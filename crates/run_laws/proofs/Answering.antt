@@ -23,7 +23,6 @@ use Rattle.kernel_values.specs.declared.world.ClientState.{ClientState}
 use Rattle.kernel_values.specs.declared.world.ClientWait.{ClientWait}
 use Rattle.kernel_values.specs.declared.world.World.{World}
 use Rattle.kernel_types.proofs.Actors.{begin_is_of_running, resume_is_of_waiting, status_of_client, status_of_thread, thread_is_thread}
-use Rattle.kernel_types.specs.Built.{is_built}
 use Rattle.kernel_types.specs.Clients.{Acted, end_of_ns_wait, ns_act}
 use Rattle.kernel_types.specs.CoreStep.{act, core_begin, core_resume, resumed, status_of, swept}
 use Rattle.kernel_types.specs.Device.{DeviceStep, device_step}
@@ -32,11 +31,11 @@ use Rattle.kernel_types.specs.Facts.{status_at}
 use Rattle.kernel_types.specs.History.{Legal, entry_of, next_state, state_after, state_or, step_entry}
 use Rattle.kernel_types.specs.Opening.{opening}
 use Rattle.kernel_types.specs.Outcome.{Outcome, no_seqs}
-use Rattle.kernel_types.specs.Step.{Stepped, begin, beside_core, client_begin, client_resume, client_status, device_stepped, full_step, idle, idle_lawful, in_world, resume, runs_again, step}
+use Rattle.kernel_types.specs.Step.{Stepped, begin, beside_core, client_begin, client_resume, client_status, device_stepped, step, idle, idle_lawful, in_world, resume, runs_again}
 use Rattle.kernel_types.specs.Waits.{end_of_wait}
 use Rattle.kernel_laws.proofs.Histories.{begins}
 use Rattle.run_laws.specs.Answered.{HasAnswers, IsFrom, Open}
-use Rattle.run_laws.proofs.Callers.{is_of_client, is_of_thread}
+use Rattle.kernel_values.specs.CallKinds.{is_of_client, is_of_thread}
 use Rattle.run_laws.proofs.ClientSteps.{behind, end_same, is_no_thread}
 use Rattle.run_laws.proofs.Counted.{Counts, answers_at, counted, counted_opened, counts_at, counts_call, counts_end}
 use Rattle.run_laws.proofs.Everyone.{Actor, Everyone, Stepping, actor_of, client_begins, client_resumes, device_turns, idles, thread_begins, thread_resumes}
@@ -77,11 +76,11 @@ client_kind clock k (call.NsKick queue head) w acted built is = absurd (cc)
 client_kind clock k _ w acted built is = absurd (cc)
 
 begun : (s : State) (k start : ℕ) (asked : Call) (r : Stepped) → step s (event.Begin (record { 0 = k }) start asked) ≡ Some r → (is_built asked ≡ true) × (begin s k start asked ≡ Some r)
-unfolding step full_step
+unfolding step
 begun s k start asked r is = only_if (is_built asked) (begin s k start asked) r is
 
 ended : (s : State) (k start : ℕ) (r : Stepped) → step s (event.Resume (record { 0 = k }) start) ≡ Some r → resume s k start ≡ Some r
-unfolding step full_step
+unfolding step
 ended s k start r is = is
 
 thread_begun : (s : State) (k start : ℕ) (asked : Call) (thread : Thread) → slice_get s.core.threads k ≡ Some thread → thread.activity ≡ activity.Running start
@@ -131,13 +130,13 @@ client_waiting_is (client_activity.Ended past) start is = absurd (cc)
 -- Every lawful step keeps the counts.
 
 module _ (from : ℕ → ℕ) (entries : List Entry) (s : State) (old : Everyone (counted from) entries s) where
-  abbrev Keeps : Event → Stepped → Type 0
-  Keeps e r = Everyone (counted from) (entries ++ entry_of e r ∷ []) r.state
+  abbrev KeepsEveryone : Event → Stepped → Type 0
+  KeepsEveryone e r = Everyone (counted from) (entries ++ entry_of e r ∷ []) r.state
 
-  kept : (e : Event) (r stepped : Stepped) → r ≡ stepped → Stepping (counted from) entries s e stepped → Keeps e r
-  kept e r stepped same stepping = subst (λ (x : Stepped). Keeps e x) (sym same) stepping.stand
+  kept : (e : Event) (r stepped : Stepped) → r ≡ stepped → Stepping (counted from) entries s e stepped → KeepsEveryone e r
+  kept e r stepped same stepping = subst (λ (x : Stepped). KeepsEveryone e x) (sym same) stepping.stand
 
-  begin_by : (k start : ℕ) (asked : Call) (r : Stepped) → is_built asked ≡ true → begin s k start asked ≡ Some r → Actor s k → Keeps (event.Begin (record { 0 = k }) start asked) r
+  begin_by : (k start : ℕ) (asked : Call) (r : Stepped) → is_built asked ≡ true → begin s k start asked ≡ Some r → Actor s k → KeepsEveryone (event.Begin (record { 0 = k }) start asked) r
   begin_by k start asked r built is (is_thread thread thread_is status_is) =
       let runs : status_at s k ≡ Some (status.Running start) = begin_is_of_running s k start asked r is in
       let activity_is : thread.activity ≡ activity.Running start = running_is thread.activity start (sym status_is ∙ runs) in
@@ -156,13 +155,13 @@ module _ (from : ℕ → ℕ) (entries : List Entry) (s : State) (old : Everyone
       let out : (acted : Acted) × (ns_act s.core.clock j asked s.world ≡ Some acted) × (r ≡ beside_core s.core acted) =
       mapped (beside_core s.core) (ns_act s.core.clock j asked s.world) r
       (sym (client_begun s j start asked client client_is activity_is) ∙ subst (λ n. begin s n start asked ≡ Some r) k_is is) in
-      subst (λ n. Keeps (event.Begin (record { 0 = n }) start asked) r) (sym k_is)
+      subst (λ n. KeepsEveryone (event.Begin (record { 0 = n }) start asked) r) (sym k_is)
       (kept (event.Begin (record { 0 = length s.core.threads + j }) start asked) r (beside_core s.core out.0) out.2
       (client_begins (counted from) entries s old j start client asked out.0 client_is activity_is (client_kind s.core.clock j asked s.world out.0 built out.1)
       (λ goes. counts_call from entries (length s.core.threads + j) start asked counts.0 counts.1) out.1))
   begin_by k start asked r built is (is_none status_is) = let runs : status_at s k ≡ Some (status.Running start) = begin_is_of_running s k start asked r is in absurd (cc)
 
-  resume_by : (k start : ℕ) (r : Stepped) → resume s k start ≡ Some r → Actor s k → Keeps (event.Resume (record { 0 = k }) start) r
+  resume_by : (k start : ℕ) (r : Stepped) → resume s k start ≡ Some r → Actor s k → KeepsEveryone (event.Resume (record { 0 = k }) start) r
   resume_by k start r is (is_thread thread thread_is status_is) =
       let waits : status_at s k ≡ Some (status.Waiting start) = resume_is_of_waiting s k start r is in
       let w : (x : Wait) × (thread.activity ≡ activity.Waiting start x) = waiting_is thread.activity start (sym status_is ∙ waits) in
@@ -182,26 +181,26 @@ module _ (from : ℕ → ℕ) (entries : List Entry) (s : State) (old : Everyone
       let out : (acted : Acted) × (option_map (runs_again j) over ≡ Some acted) × (r ≡ beside_core s.core acted) =
       mapped (beside_core s.core) (option_map (runs_again j) over) r (sym (client_ended s j start client w.0 client_is w.1) ∙ subst (λ n. resume s n start ≡ Some r) k_is is) in
       let inner : (acted : Acted) × (over ≡ Some acted) × (out.0 ≡ runs_again j acted) = mapped (runs_again j) over out.0 out.1 in
-      subst (λ n. Keeps (event.Resume (record { 0 = n }) start) r) (sym k_is)
+      subst (λ n. KeepsEveryone (event.Resume (record { 0 = n }) start) r) (sym k_is)
       (kept (event.Resume (record { 0 = length s.core.threads + j }) start) r (beside_core s.core (runs_again j inner.0)) (out.2 ∙ ap (λ (acted : Acted). beside_core s.core acted) inner.2)
       (client_resumes (counted from) entries s old j start client w.0 inner.0 client_is w.1 inner.1
       (counts_end from entries (length s.core.threads + j) start inner.0.answer no_seqs (end_same s.core.clock w.0 s.world inner.0 inner.1).1 counts.0 counts.1)))
   resume_by k start r is (is_none status_is) = let waits : status_at s k ≡ Some (status.Waiting start) = resume_is_of_waiting s k start r is in absurd (cc)
 
-  device_by : (r : Stepped) → step s event.Device ≡ Some r → Keeps event.Device r
-  unfolding step full_step
+  device_by : (r : Stepped) → step s event.Device ≡ Some r → KeepsEveryone event.Device r
+  unfolding step
   device_by r is =
       let out : (done : DeviceStep) × (device_step s ≡ Some done) × (r ≡ device_stepped done) = mapped device_stepped (device_step s) r is in
       kept event.Device r (device_stepped out.0) out.2 (device_turns (counted from) entries s old out.0 out.1)
 
-  idle_by : (r : Stepped) → step s event.Idle ≡ Some r → Keeps event.Idle r
-  unfolding step full_step
+  idle_by : (r : Stepped) → step s event.Idle ≡ Some r → KeepsEveryone event.Idle r
+  unfolding step
   idle_by r is =
       let lawful : (idle_lawful s ≡ true) × (Some (idle s) ≡ Some r) = only_if (idle_lawful s) (Some (idle s)) r is in
       let same : idle s ≡ r = let both : Some (idle s) ≡ Some r = lawful.1 in cc in
       kept event.Idle r (idle s) (sym same) (idles (counted from) entries s old lawful.0)
 
-  pub step_keeps : (e : Event) (r : Stepped) → step s e ≡ Some r → Keeps e r
+  pub step_keeps : (e : Event) (r : Stepped) → step s e ≡ Some r → KeepsEveryone e r
   step_keeps (event.Begin actor start asked) r is =
       let lawful : (is_built asked ≡ true) × (begin s actor.0 start asked ≡ Some r) = begun s actor.0 start asked r is in begin_by actor.0 start asked r lawful.0 lawful.1 (actor_of s actor.0)
   step_keeps (event.Resume actor start) r is = resume_by actor.0 start r (ended s actor.0 start r is) (actor_of s actor.0)

@@ -1,33 +1,14 @@
--- The calls that threads make, those that honest clients make, and `finish` with both; the kernel has a body for each.
+-- The calls that threads make, those that clients make, and `finish` with both; the kernel has a body for each.
 use Rattle.std.proofs.Common.{◌≡◌, ℕ, Bool, true, false, refl}
 use Rattle.std.specs.Option.{is_some}
-use Rattle.kernel_values.specs.Commands.{is_thread_call, is_client_call}
+use Rattle.kernel_values.specs.CallKinds.{is_client_call, is_of_client, is_of_thread, is_thread_call}
 use Rattle.kernel_values.specs.declared.call.Call.{Call}
 use Rattle.kernel_values.specs.declared.call.Call.TheVariants as call
 use Rattle.kernel_values.specs.declared.state.CoreState.{CoreState}
 use Rattle.kernel_values.specs.declared.world.World.{World}
-use Rattle.kernel_types.specs.Built.{is_built}
-use Rattle.kernel_types.specs.Carried.{is_honest_call}
 use Rattle.kernel_types.specs.Clients.{ns_act}
 use Rattle.kernel_types.specs.CoreStep.{act}
 use Rattle.kernel_types.specs.Scripts.{with_number}
-
-abbrev pub is_of_thread : Call → Bool
-is_of_thread (call.NsConnect path) = false
-is_of_thread (call.NsSend conn bytes) = false
-is_of_thread (call.NsRecv conn timeout) = false
-is_of_thread (call.NsClose conn) = false
-is_of_thread (call.NsPoke addr bytes) = false
-is_of_thread (call.NsKick queue head) = false
-is_of_thread _ = true
-
-abbrev pub is_of_client : Call → Bool
-is_of_client (call.NsConnect path) = true
-is_of_client (call.NsSend conn bytes) = true
-is_of_client (call.NsRecv conn timeout) = true
-is_of_client (call.NsClose conn) = true
-is_of_client call.Finish = true
-is_of_client _ = false
 
 -- calls of one kind: a register changes no call's kind, and `finish` is of it
 pub record IsKind (of_kind : Call → Bool) : Type 0 where
@@ -60,26 +41,16 @@ by_thread (call.NsPoke addr bytes) h = absurd (cc)
 by_thread (call.NsKick queue head) h = absurd (cc)
 by_thread _ h = refl
 
-pub by_client : (asked : Call) → is_client_call asked ≡ true → is_honest_call asked ≡ true → is_of_client asked ≡ true
-by_client (call.NsConnect path) h honest = refl
-by_client (call.NsSend conn bytes) h honest = refl
-by_client (call.NsRecv conn timeout) h honest = refl
-by_client (call.NsClose conn) h honest = refl
-by_client (call.NsPoke addr bytes) h honest = absurd (cc)
-by_client (call.NsKick queue head) h honest = absurd (cc)
-by_client _ h honest = absurd (cc)
+pub by_client : (asked : Call) → is_client_call asked ≡ true → is_of_client asked ≡ true
+by_client (call.NsConnect path) h = refl
+by_client (call.NsSend conn bytes) h = refl
+by_client (call.NsRecv conn timeout) h = refl
+by_client (call.NsClose conn) h = refl
+by_client (call.NsPoke addr bytes) h = refl
+by_client (call.NsKick queue head) h = refl
+by_client _ h = absurd (cc)
 
 -- the kernel has a body for each
-
-pub thread_built : (asked : Call) → is_of_thread asked ≡ true → is_built asked ≡ true
-thread_built (call.NsPoke addr bytes) h = absurd (cc)
-thread_built (call.NsKick queue head) h = absurd (cc)
-thread_built _ h = refl
-
-pub client_built : (asked : Call) → is_of_client asked ≡ true → is_built asked ≡ true
-client_built (call.NsPoke addr bytes) h = absurd (cc)
-client_built (call.NsKick queue head) h = absurd (cc)
-client_built _ h = refl
 
 pub thread_body : (c : CoreState) (thread app : ℕ) (asked : Call) → is_of_thread asked ≡ true → is_some (act c thread app asked) ≡ true
 unfolding act
@@ -97,5 +68,7 @@ client_body clock client w (call.NsConnect path) h = refl
 client_body clock client w (call.NsSend conn bytes) h = refl
 client_body clock client w (call.NsRecv conn timeout) h = refl
 client_body clock client w (call.NsClose conn) h = refl
+client_body clock client w (call.NsPoke addr bytes) h = refl
+client_body clock client w (call.NsKick queue head) h = refl
 client_body clock client w call.Finish h = refl
 client_body clock client w _ h = absurd (cc)

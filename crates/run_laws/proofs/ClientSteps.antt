@@ -29,10 +29,11 @@ use Rattle.kernel_types.specs.Drains.{connection_of, drained, from_normal_draine
 use Rattle.kernel_types.specs.Objects.{map_at}
 use Rattle.kernel_types.specs.Outcome.{no_seqs}
 use Rattle.kernel_types.specs.Sending.{frame, leave_frame, request_frame}
-use Rattle.kernel_types.specs.Step.{beside_core, client_begin, client_resume, client_status, full_step, runs_again, step}
+use Rattle.kernel_types.specs.Step.{beside_core, client_begin, client_resume, client_status, step, runs_again}
 use Rattle.kernel_types.specs.Waits.{deadline_of, is_due, is_zero_timeout}
 use Rattle.step_laws.specs.Walks.{is_ending}
-use Rattle.run_laws.proofs.Callers.{is_of_client, client_built}
+use Rattle.run_laws.proofs.Callers.{client_built}
+use Rattle.kernel_values.specs.CallKinds.{is_of_client}
 use Rattle.run_laws.proofs.ClientPlaces.{ClientStands, ClientsStand, one_changes, one_stays}
 use Rattle.run_laws.proofs.Finals.{IsFinal}
 use Rattle.run_laws.proofs.Longer.{FitsCall, IsOf, begin_is_of, entry_with, resume_is_of, self_is}
@@ -275,20 +276,20 @@ behind n k = omega arith
 pub client_begin_step : (s : State) (k start : ℕ) (client : ClientState) (asked : Call) (acted : Acted) → slice_get s.world.clients k ≡ Some client → client.activity ≡ activity.Running start
     → is_of_client asked ≡ true → ns_act s.core.clock k asked s.world ≡ Some acted
     → step s (event.Begin (record { 0 = length s.core.threads + k }) start asked) ≡ Some (beside_core s.core acted)
-unfolding step full_step client_begin
+unfolding step client_begin
 client_begin_step s k start client asked acted client_is activity_is kind is =
     rw (client_built asked kind, is_no_thread (length s.core.threads) k, behind (length s.core.threads) k, client_is, activity_is, self_is start, is) refl
 
 pub client_resume_step : (s : State) (k start : ℕ) (client : ClientState) (wait : ClientWait) (acted : Acted) → slice_get s.world.clients k ≡ Some client
     → client.activity ≡ activity.Waiting start wait → end_of_ns_wait s.core.clock wait (drained s.world) ≡ Some acted
     → step s (event.Resume (record { 0 = length s.core.threads + k }) start) ≡ Some (beside_core s.core (runs_again k acted))
-unfolding step full_step client_resume
+unfolding step client_resume
 client_resume_step s k start client wait acted client_is activity_is is =
     rw (is_no_thread (length s.core.threads) k, behind (length s.core.threads) k, client_is, activity_is, self_is start, is) refl
 
 pub client_stays_waiting : (s : State) (k start : ℕ) (client : ClientState) (wait : ClientWait) → slice_get s.world.clients k ≡ Some client
     → client.activity ≡ activity.Waiting start wait → end_of_ns_wait s.core.clock wait (drained s.world) ≡ None
     → step s (event.Resume (record { 0 = length s.core.threads + k }) start) ≡ None
-unfolding step full_step client_resume
+unfolding step client_resume
 client_stays_waiting s k start client wait client_is activity_is is =
     rw (is_no_thread (length s.core.threads) k, behind (length s.core.threads) k, client_is, activity_is, self_is start, is) refl

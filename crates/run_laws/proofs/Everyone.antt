@@ -27,12 +27,12 @@ use Rattle.kernel_types.specs.Drains.{drained}
 use Rattle.kernel_types.specs.Facts.{status_at}
 use Rattle.kernel_types.specs.History.{entry_of}
 use Rattle.kernel_types.specs.Outcome.{Outcome, no_seqs}
-use Rattle.kernel_types.specs.Step.{Stepped, beside_core, client_status, device_stepped, full_step, idle, idle_lawful, in_world, next_deadline, runs_again, statuses, step, world_idle}
+use Rattle.kernel_types.specs.Step.{Stepped, beside_core, client_status, device_stepped, step, idle, idle_lawful, in_world, next_deadline, runs_again, statuses, world_idle}
 use Rattle.kernel_types.specs.Waits.{end_of_wait}
 use Rattle.kernel_laws.proofs.Standing.{StepStands, step_stands}
 use Rattle.step_laws.specs.Walks.{is_ending}
 use Rattle.run_laws.proofs.Bridging.{device_stands}
-use Rattle.run_laws.proofs.Callers.{is_of_client, is_of_thread}
+use Rattle.kernel_values.specs.CallKinds.{is_of_client, is_of_thread}
 use Rattle.run_laws.proofs.ClientPlaces.{ClientsStand, cancelled_stand, clients_longer}
 use Rattle.run_laws.proofs.ClientSteps.{client_begin_step, client_begun, client_resume_step, client_woken}
 use Rattle.run_laws.proofs.Longer.{FitsCall, IsOf, all_longer, begin_is_of, entry_with, resume_is_of}
@@ -118,7 +118,7 @@ module _ (S : Standings) (entries : List Entry) where
   idle_clients threads None w all = cancelled_stand S entries threads w.clients all
 
 device_step_is : (s : State) (done : DeviceStep) → device_step s ≡ Some done → step s event.Device ≡ Some (device_stepped done)
-unfolding step full_step
+unfolding step
 device_step_is s done is = rw is refl
 
 -- An event of one of them: its step, after which everyone stands.

@@ -3,7 +3,8 @@ use Rattle.std.proofs.Common.{◌≡◌, ℕ, zero, suc, ◌+◌, ◌<◌, ◌�
 use Rattle.std.proofs.lemmas.List.{length-map}
 use Rattle.std.specs.Prelude.{◌⊎◌, slice_get, ◌&&◌}
 use Rattle.std.specs.List.{flat_map, enumerate_from, list_all}
-use Rattle.kernel_values.specs.Commands.{is_client_call, is_thread_call, can_be_spelled}
+use Rattle.kernel_values.specs.Commands.{can_be_spelled}
+use Rattle.kernel_values.specs.CallKinds.{is_client_call, is_thread_call, is_honest_call, is_of_client, is_of_thread}
 use Rattle.kernel_values.specs.SceneLaw.{SceneValue, IsLawfulScene, scripts_of, is_lawful_app, is_lawful_client, is_lawful_client_command, is_lawful_thread_command}
 use Rattle.kernel_values.specs.Words.{is_name}
 use Rattle.kernel_values.specs.declared.scene.App.{App}
@@ -15,13 +16,13 @@ use Rattle.kernel_values.specs.declared.state.Activity.TheVariants as activity
 use Rattle.kernel_values.specs.declared.state.Application.{Application}
 use Rattle.kernel_values.specs.declared.state.Thread.{Thread}
 use Rattle.kernel_values.specs.declared.world.ClientState.{ClientState}
-use Rattle.kernel_types.specs.Carried.{is_honest, is_honest_call}
+use Rattle.kernel_types.specs.Carried.{is_honest}
 use Rattle.kernel_types.specs.Opening.{opening, opening_app, opening_starts, opening_activity, opening_threads, opening_client}
 use Rattle.kernel_types.specs.CoreStep.{status_of}
 use Rattle.kernel_types.specs.Turns.{opening_run}
 use Rattle.kernel_types.specs.Whole.{answers_in}
 use Rattle.step_laws.proofs.Leaving.{starts_of}
-use Rattle.run_laws.proofs.Callers.{by_client, by_thread, is_of_client, is_of_thread}
+use Rattle.run_laws.proofs.Callers.{by_client, by_thread}
 use Rattle.run_laws.proofs.Calling.{IsCallable}
 use Rattle.run_laws.proofs.ClientPlaces.{ClientStands}
 use Rattle.run_laws.proofs.Everyone.{Everyone, get_behind}

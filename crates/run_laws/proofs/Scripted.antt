@@ -11,7 +11,7 @@ use Rattle.kernel_values.specs.declared.reply.Answer.TheVariants as answer
 use Rattle.kernel_values.specs.declared.script.Command.{Command}
 use Rattle.kernel_types.specs.Scripts.{Stand, script_begin, stand_on, answered}
 use Rattle.kernel_types.specs.Whole.{answers_in, answer_by, final_answer}
-use Rattle.run_laws.proofs.Callers.{is_of_client, is_of_thread}
+use Rattle.kernel_values.specs.CallKinds.{is_of_client, is_of_thread}
 use Rattle.run_laws.proofs.Calling.{IsCallable, HasCall, HasCommand, has_call, answer_goes_on}
 use Rattle.run_laws.proofs.Entries.{answers_more}
 use Rattle.run_laws.proofs.Longer.{FitsCall, IsOf, begin_is_of, entry_with}
@@ -21,11 +21,11 @@ use Rattle.run_laws.proofs.Standings.{IsSilent, Standings}
 abbrev pub stood : List Command → ℕ → ℕ → List Entry → Stand
 stood script k start entries = stand_on script script_begin (answers_in k start entries)
 
-abbrev pub Fits : List Entry → ℕ → List Command → ActorStatus → Type 0
-Fits entries k script status.Off = ⊤
-Fits entries k script (status.Running start) = HasCall script (stood script k start entries)
-Fits entries k script (status.Waiting start) = HasCommand script (stood script k start entries)
-Fits entries k script (status.Ended start) = ⊤
+abbrev pub HasNext : List Entry → ℕ → List Command → ActorStatus → Type 0
+HasNext entries k script status.Off = ⊤
+HasNext entries k script (status.Running start) = HasCall script (stood script k start entries)
+HasNext entries k script (status.Waiting start) = HasCommand script (stood script k start entries)
+HasNext entries k script (status.Ended start) = ⊤
 
 -- an actor with a script of this kind
 pub record HasScript (of_kind : Call → Bool) (scripts : List (List Command)) (k : ℕ) : Type 0 where
@@ -34,7 +34,7 @@ pub record HasScript (of_kind : Call → Bool) (scripts : List (List Command)) (
   pub callable : IsCallable of_kind script
 
 abbrev pub FitsAt : List (List Command) → List Entry → ℕ → ActorStatus → Type 0
-FitsAt scripts entries k x = (script : List Command) → slice_get scripts k ≡ Some script → Fits entries k script x
+FitsAt scripts entries k x = (script : List Command) → slice_get scripts k ≡ Some script → HasNext entries k script x
 
 -- at the beginning of its script
 pub at_beginning : (entries : List Entry) (k start : ℕ) (script : List Command) → answers_in k start entries ≡ [] → HasCall script (stood script k start entries)
@@ -54,7 +54,7 @@ module _ (entries : List Entry) (entry : Entry) where
   stood_on script j s given is =
       ap (λ (answers : List Answer). stand_on script script_begin answers) (answers_more j s entries entry (Some given) is) ∙ stand_more script script_begin (answers_in j s entries) given
 
-  pub fits_longer : (j : ℕ) (script : List Command) (x : ActorStatus) → ((s : ℕ) → IsSilent j s entry) → Fits entries j script x → Fits (entries ++ entry ∷ []) j script x
+  pub fits_longer : (j : ℕ) (script : List Command) (x : ActorStatus) → ((s : ℕ) → IsSilent j s entry) → HasNext entries j script x → HasNext (entries ++ entry ∷ []) j script x
   fits_longer j script status.Off silent fits = tt
   fits_longer j script (status.Running start) silent fits = subst (λ stand. HasCall script stand) (sym (stood_same script j start (silent start).1)) fits
   fits_longer j script (status.Waiting start) silent fits = subst (λ stand. HasCommand script stand) (sym (stood_same script j start (silent start).1)) fits

@@ -21,7 +21,7 @@ use Rattle.kernel_types.specs.Applications.{exit, finish, application_ended, end
 use Rattle.kernel_types.specs.Objects.{map_at}
 use Rattle.kernel_types.specs.Outcome.{Outcome}
 use Rattle.kernel_types.specs.CoreStep.{act, swept, core_begin, resumed, core_resume, core_idle, status_of}
-use Rattle.kernel_types.specs.Step.{full_step, step, in_world, idle, idle_lawful, next_deadline}
+use Rattle.kernel_types.specs.Step.{step, in_world, idle, idle_lawful, next_deadline}
 use Rattle.kernel_types.specs.Sweep.{sweep, kept, pruned}
 use Rattle.kernel_types.specs.Threads.{with_activity, activity_changed, running_activity, waiting_activity}
 use Rattle.kernel_types.specs.Waits.{end_of_wait}
@@ -29,7 +29,8 @@ use Rattle.kernel_types.proofs.Actors.{thread_is_thread}
 use Rattle.step_laws.proofs.Leaving.{Quiet, starts_of}
 use Rattle.step_laws.specs.Walks.{is_ending}
 use Rattle.run_laws.proofs.Acting.{Upheld, act_upholds}
-use Rattle.run_laws.proofs.Callers.{is_of_thread, thread_built}
+use Rattle.run_laws.proofs.Callers.{thread_built}
+use Rattle.kernel_values.specs.CallKinds.{is_of_thread}
 use Rattle.run_laws.proofs.Longer.{FitsCall, IsOf, all_longer, begin_is_of, but_longer, entry_with, resume_is_of, self_is}
 use Rattle.run_laws.proofs.Places.{AllBut, AllStand, OthersFit, all_changed, all_with, apart, ended_stands, idle_stands, quiet_but, quiet_stands, same_start_ended, same_start_running, same_start_waiting, start_of, started_stands}
 use Rattle.run_laws.proofs.Standings.{Standings}
@@ -160,20 +161,20 @@ idle_after S entries s all =
 
 pub begin_step : (s : State) (k start : ℕ) (thread : Thread) (asked : Call) (outcome : Outcome) → slice_get s.core.threads k ≡ Some thread → thread.activity ≡ activity.Running start
     → is_of_thread asked ≡ true → act s.core k thread.app asked ≡ Some outcome → step s (event.Begin (record { 0 = k }) start asked) ≡ Some (in_world s.world (swept outcome))
-unfolding step full_step core_begin
+unfolding step core_begin
 begin_step s k start thread asked outcome thread_is activity_is kind is =
     rw (thread_built asked kind, thread_is_thread s k thread thread_is, thread_is, activity_is, self_is start, is) refl
 
 pub resume_step : (s : State) (k start : ℕ) (thread : Thread) (w : Wait) (outcome : Outcome) → slice_get s.core.threads k ≡ Some thread → thread.activity ≡ activity.Waiting start w
     → end_of_wait s.core thread.app w ≡ Some outcome → step s (event.Resume (record { 0 = k }) start) ≡ Some (in_world s.world (resumed k outcome))
-unfolding step full_step core_resume
+unfolding step core_resume
 resume_step s k start thread w outcome thread_is activity_is is = rw (thread_is_thread s k thread thread_is, thread_is, activity_is, self_is start, is) refl
 
 pub stays_waiting : (s : State) (k start : ℕ) (thread : Thread) (w : Wait) → slice_get s.core.threads k ≡ Some thread → thread.activity ≡ activity.Waiting start w
     → end_of_wait s.core thread.app w ≡ None → step s (event.Resume (record { 0 = k }) start) ≡ None
-unfolding step full_step core_resume
+unfolding step core_resume
 stays_waiting s k start thread w thread_is activity_is is = rw (thread_is_thread s k thread thread_is, thread_is, activity_is, self_is start, is) refl
 
 pub idle_step : (s : State) → idle_lawful s ≡ true → step s event.Idle ≡ Some (idle s)
-unfolding step full_step
+unfolding step
 idle_step s lawful = rw lawful refl

@@ -28,10 +28,10 @@ use Rattle.kernel_types.specs.Facts.{status_at}
 use Rattle.kernel_types.specs.Outcome.{Outcome, no_seqs}
 use Rattle.kernel_types.specs.Scripts.{Stand, next_call}
 use Rattle.kernel_types.specs.CoreStep.{act, status_of, swept, resumed}
-use Rattle.kernel_types.specs.Step.{Stepped, beside_core, client_movable, client_status, device_has_work, device_stepped, full_step, idle, idle_lawful, in_world, movable, runs_again, step}
+use Rattle.kernel_types.specs.Step.{Stepped, beside_core, client_movable, client_status, device_has_work, device_stepped, step, idle, idle_lawful, in_world, movable, runs_again}
 use Rattle.kernel_types.specs.Turns.{Run, grown, event_of, run_event, run_turn, takes_turn, kernel_turn, begin_by_script, begin_if, event_by_status}
 use Rattle.kernel_types.specs.Waits.{end_of_wait, thread_movable}
-use Rattle.run_laws.proofs.Callers.{is_of_client, is_of_thread}
+use Rattle.kernel_values.specs.CallKinds.{is_of_client, is_of_thread}
 use Rattle.run_laws.proofs.Calling.{IsNext, acted_of, client_next, outcome_of, some_of, thread_next}
 use Rattle.run_laws.proofs.ClientSteps.{client_stays_waiting}
 use Rattle.run_laws.proofs.Everyone.{Actor, Everyone, Stepping, actor_of, client_begins, client_resumes, device_turns, idles, thread_begins, thread_resumes}
@@ -282,7 +282,7 @@ actor_keeps scripts run next actor false never placed is =
     absurd (cc)
 
 no_device : (scripts : List (List Command)) (run : Run) → device_has_work run.state ≡ false → run_turn step scripts run turn.Device ≡ None
-unfolding event_of step full_step device_has_work
+unfolding event_of step device_has_work
 no_device scripts run rests =
     ap (λ (o : Option DeviceStep). option_map (grown run event.Device) (option_map device_stepped o)) (none_of (device_step run.state) rests)
 
@@ -292,7 +292,7 @@ device_turn_keeps scripts run next true works placed is = same_taken scripts run
 device_turn_keeps scripts run next false rests placed is = let none : run_turn step scripts run turn.Device ≡ None = no_device scripts run rests in absurd (cc)
 
 no_idle : (scripts : List (List Command)) (run : Run) → idle_lawful run.state ≡ false → run_turn step scripts run turn.Idle ≡ None
-unfolding event_of step full_step
+unfolding event_of step
 no_idle scripts run is = rw is refl
 
 idle_keeps : (scripts : List (List Command)) (run next : Run) (lawful : Bool) → idle_lawful run.state ≡ lawful → AtScripts scripts run → run_turn step scripts run turn.Idle ≡ Some next → AtScripts scripts next

@@ -17,13 +17,13 @@ use Rattle.kernel_types.specs.Whole.{FollowsScripts}
 use Rattle.kernel_log.specs.Logs.{Log, state_of}
 use Rattle.run_laws.proofs.SerialTurns.{from_refused, from_turn, serial_full, serial_over, serial_step, serial_still, turn_grows}
 use Rattle.run_laws.proofs.Going.{next_takes}
-use Rattle.runners.specs.Runs.{Carries, IsRun, Told, origin_of, state_told, run_told, run_logged, RanSerially, StandsStill, StoodStill, IsRunBy, IsWholeRun, IsCutShort, IsReplay, TookTurn}
+use Rattle.runners.specs.Runs.{Carries, IsRun, ScriptedRun, origin_of, state_told, run_told, run_logged, RanSerially, StandsStill, StoodStill, IsRunBy, IsWholeRun, IsCutShort, IsReplay, TookTurn}
 use Rattle.runners.specs.declared.steps.Taken.{Taken}
 use Rattle.runners.specs.declared.steps.Taken.TheVariants as taken
 
 -- the whole run
 
-pub run_is_by : (scene : SceneValue) (told next : Told) (log : Log) (turns : List Turn) → told.origin ≡ record { state = opening scene; scripts = scripts_of scene; made = 0 } → told.history ≡ []
+pub run_is_by : (scene : SceneValue) (told next : ScriptedRun) (log : Log) (turns : List Turn) → told.origin ≡ record { state = opening scene; scripts = scripts_of scene; made = 0 } → told.history ≡ []
     → next.origin ≡ told.origin → run_by scene turns ≡ ran (run_told next) → log.origin.state ≡ next.origin.state → log.journal.entries ≡ next.history
     → Legal next.origin.state next.history → FollowsScripts next.origin.scripts next.history → IsRunBy scene turns log
 run_is_by scene told next log turns origin_is none_yet stays run_is log_state log_entries legal follows =
@@ -51,7 +51,7 @@ whole_run scene log turns run over = record {
 
 -- a run from the opening, as its turns are counted
 
-pub serial_is : (scene : SceneValue) (told next : Told) → told.origin ≡ record { state = opening scene; scripts = scripts_of scene; made = 0 } → told.history ≡ []
+pub serial_is : (scene : SceneValue) (told next : ScriptedRun) → told.origin ≡ record { state = opening scene; scripts = scripts_of scene; made = 0 } → told.history ≡ []
     → run_from step told.origin.scripts 0 (run_told told) (serial_from step told.origin.scripts history_limit None (run_told told)) ≡ ran (run_told next)
     → run_by scene (serial_turns scene) ≡ ran (run_told next)
 unfolding run_by serial_turns
@@ -62,7 +62,7 @@ serial_is scene told next origin_is none_yet run_is =
     sym (ap (λ (cs : List (List Command)). run_from step cs 0 (run_told told) (serial_from step cs history_limit None (run_told told))) scripts
     ∙ ap (λ (r : Run). run_from step (scripts_of scene) 0 r (serial_from step (scripts_of scene) history_limit None r)) begins) ∙ run_is
 
-pub listed_is : (scene : SceneValue) (told : Told) (outturn : Outturn) → told.origin ≡ record { state = opening scene; scripts = scripts_of scene; made = 0 } → told.history ≡ []
+pub listed_is : (scene : SceneValue) (told : ScriptedRun) (outturn : Outturn) → told.origin ≡ record { state = opening scene; scripts = scripts_of scene; made = 0 } → told.history ≡ []
     → run_from step told.origin.scripts 0 (run_told told) scene.turns ≡ outturn → run_by scene scene.turns ≡ outturn
 unfolding run_by
 listed_is scene told outturn origin_is none_yet is =
@@ -90,17 +90,17 @@ replay_unfinished scene run is over = ap (λ (o : Outturn). whole_or_refused (le
 
 -- the loop over the serial turns
 
-abbrev pub Left : Told → Told → ℕ → Option ℕ → Type 0
+abbrev pub Left : ScriptedRun → ScriptedRun → ℕ → Option ℕ → Type 0
 Left told mid k last = run_from step mid.origin.scripts k (run_told mid) (serial_from step mid.origin.scripts (history_limit - k) last (run_told mid))
     ≡ run_from step told.origin.scripts 0 (run_told told) (serial_from step told.origin.scripts history_limit None (run_told told))
 
-pub serial_goes : (told mid next : Told) (k : ℕ) (last : Option ℕ) (t : Turn) → next.origin ≡ mid.origin → TookTurn t mid next taken.Stepped → k < history_limit
+pub serial_goes : (told mid next : ScriptedRun) (k : ℕ) (last : Option ℕ) (t : Turn) → next.origin ≡ mid.origin → TookTurn t mid next taken.Stepped → k < history_limit
     → next_turn (state_told mid) last ≡ Some t → Left told mid k last → Left told next (k + 1) (last_after last t)
 serial_goes told mid next k last t stays took below next_is left =
     ap (λ (o : Origin). run_from step o.scripts (k + 1) (run_told next) (serial_from step o.scripts (history_limit - (k + 1)) (last_after last t) (run_told next))) stays
     ∙ (sym (serial_step mid.origin.scripts history_limit k last (run_told mid) (run_told next) t below next_is took) ∙ left)
 
-pub ran_over : (told mid : Told) (k : ℕ) (last : Option ℕ) → mid.origin ≡ told.origin → Left told mid k last → next_turn (state_told mid) last ≡ None
+pub ran_over : (told mid : ScriptedRun) (k : ℕ) (last : Option ℕ) → mid.origin ≡ told.origin → Left told mid k last → next_turn (state_told mid) last ≡ None
     → is_at_end (state_told mid) ≡ true → RanSerially told mid
 ran_over told mid k last stays left none_left over = record {
   origin_is = stays;
@@ -108,7 +108,7 @@ ran_over told mid k last stays left none_left over = record {
   full = λ goes_on. absurd (cc (over, goes_on));
 }
 
-pub ran_full : (told mid : Told) (k : ℕ) (last : Option ℕ) → mid.origin ≡ told.origin → Left told mid k last → history_limit ≤ k → k ≤ history_limit → length mid.history ≡ k → RanSerially told mid
+pub ran_full : (told mid : ScriptedRun) (k : ℕ) (last : Option ℕ) → mid.origin ≡ told.origin → Left told mid k last → history_limit ≤ k → k ≤ history_limit → length mid.history ≡ k → RanSerially told mid
 ran_full told mid k last stays left past within count = record {
   origin_is = stays;
   run_is = sym left ∙ serial_full mid.origin.scripts history_limit k last (run_told mid) past;
@@ -117,10 +117,10 @@ ran_full told mid k last stays left past within count = record {
 
 -- where the turn that is due is not lawful
 
-pub same_told : (one other : Told) → one.origin ≡ other.origin → one.history ≡ other.history → one ≡ other
+pub same_told : (one other : ScriptedRun) → one.origin ≡ other.origin → one.history ≡ other.history → one ≡ other
 same_told one other p q = ap (λ (o : Origin). record { origin = o; history = one.history }) p ∙ ap (λ (es : List Entry). record { origin = other.origin; history = es }) q
 
-pub stood_still : (told mid : Told) (k : ℕ) (last : Option ℕ) (t : Turn) → mid.origin ≡ told.origin → k < history_limit → next_turn (state_told mid) last ≡ Some t
+pub stood_still : (told mid : ScriptedRun) (k : ℕ) (last : Option ℕ) (t : Turn) → mid.origin ≡ told.origin → k < history_limit → next_turn (state_told mid) last ≡ Some t
     → run_turn step mid.origin.scripts (run_told mid) t ≡ None → Left told mid k last → StoodStill told mid
 stood_still told mid k last t stays below due_is unlawful left = record {
   origin_is = stays;
@@ -140,7 +140,7 @@ hostile_by scene run last due true honest lawful run_is due_is unlawful =
     absurd (cc)
 hostile_by scene run last due false honest lawful run_is due_is unlawful = refl
 
-pub stands_still : (scene : SceneValue) (told next : Told) → IsLawfulScene scene → told.origin ≡ record { state = opening scene; scripts = scripts_of scene; made = 0 } → told.history ≡ []
+pub stands_still : (scene : SceneValue) (told next : ScriptedRun) → IsLawfulScene scene → told.origin ≡ record { state = opening scene; scripts = scripts_of scene; made = 0 } → told.history ≡ []
     → StoodStill told next → StandsStill scene
 stands_still scene told next lawful origin_is none_yet still =
     let run_is : run_by scene (serial_turns scene) ≡ ran (run_told next) = serial_is scene told next origin_is none_yet still.run_is in
@@ -156,21 +156,21 @@ stands_still scene told next lawful origin_is none_yet still =
       hostile = hostile_by scene (run_told next) still.last still.due (list_all is_honest scene.clients) refl lawful run_is still.due_is unlawful;
     }
 
-pub history_grows : (mid next : Told) (t : Turn) (k : ℕ) → TookTurn t mid next taken.Stepped → length mid.history ≡ k → length next.history ≡ k + 1
+pub history_grows : (mid next : ScriptedRun) (t : Turn) (k : ℕ) → TookTurn t mid next taken.Stepped → length mid.history ≡ k → length next.history ≡ k + 1
 history_grows mid next t k took count = omega (arith, turn_grows mid.origin.scripts (run_told mid) (run_told next) t took, count)
 
 -- the loop over the turns that a scene lists
 
-pub listed_grows : (mid next : Told) (t : Turn) (k : ℕ) (came : Taken) → TookTurn t mid next came → came ≡ taken.Stepped → length mid.history ≡ k → length next.history ≡ k + 1
+pub listed_grows : (mid next : ScriptedRun) (t : Turn) (k : ℕ) (came : Taken) → TookTurn t mid next came → came ≡ taken.Stepped → length mid.history ≡ k → length next.history ≡ k + 1
 listed_grows mid next t k came took_it came_is count = history_grows mid next t k (subst (λ (u : Taken). TookTurn t mid next u) came_is took_it) count
 
-abbrev pub LeftOf : List Turn → Told → Told → ℕ → Type 0
+abbrev pub LeftOf : List Turn → ScriptedRun → ScriptedRun → ℕ → Type 0
 LeftOf turns told mid k = run_from step mid.origin.scripts k (run_told mid) (drop k turns) ≡ run_from step told.origin.scripts 0 (run_told told) turns
 
 turns_from : (turns : List Turn) (k : ℕ) (t other : Turn) → k < length turns → t ≡ get_or turns k other → drop k turns ≡ t ∷ drop (k + 1) turns
 turns_from turns k t other below is = rw (add-one, drop-cons turns k other) (ap (λ (u : Turn). u ∷ drop (suc k) turns) (sym is))
 
-pub listed_goes : (turns : List Turn) (told mid next : Told) (k : ℕ) (t other : Turn) (came : Taken) → next.origin ≡ mid.origin → TookTurn t mid next came → came ≡ taken.Stepped → k < length turns → t ≡ get_or turns k other
+pub listed_goes : (turns : List Turn) (told mid next : ScriptedRun) (k : ℕ) (t other : Turn) (came : Taken) → next.origin ≡ mid.origin → TookTurn t mid next came → came ≡ taken.Stepped → k < length turns → t ≡ get_or turns k other
     → LeftOf turns told mid k → LeftOf turns told next (k + 1)
 listed_goes turns told mid next k t other came stays took_it came_is below is left =
     let took : TookTurn t mid next taken.Stepped = subst (λ (u : Taken). TookTurn t mid next u) came_is took_it in
@@ -178,7 +178,7 @@ listed_goes turns told mid next k t other came stays took_it came_is below is le
     ∙ (sym (ap (λ (ts : List Turn). run_from step mid.origin.scripts k (run_told mid) ts) (turns_from turns k t other below is)
     ∙ from_turn mid.origin.scripts k (run_told mid) (run_told next) t (drop (k + 1) turns) took) ∙ left)
 
-pub listed_refused : (turns : List Turn) (told mid next : Told) (k : ℕ) (t other : Turn) (came : Taken) → TookTurn t mid next came → came ≡ taken.Unlawful → k < length turns → t ≡ get_or turns k other
+pub listed_refused : (turns : List Turn) (told mid next : ScriptedRun) (k : ℕ) (t other : Turn) (came : Taken) → TookTurn t mid next came → came ≡ taken.Unlawful → k < length turns → t ≡ get_or turns k other
     → LeftOf turns told mid k → run_from step told.origin.scripts 0 (run_told told) turns ≡ refused k
 listed_refused turns told mid next k t other came took_it came_is below is left =
     let took : TookTurn t mid next taken.Unlawful = subst (λ (u : Taken). TookTurn t mid next u) came_is took_it in
@@ -191,21 +191,21 @@ drop_all [] (suc k) past = refl
 drop_all (t ∷ turns) zero past = absurd (omega arith)
 drop_all (t ∷ turns) (suc k) past = drop_all turns k (omega (arith, past))
 
-pub listed_ran : (turns : List Turn) (told mid : Told) (k : ℕ) → length turns ≤ k → LeftOf turns told mid k → run_from step told.origin.scripts 0 (run_told told) turns ≡ ran (run_told mid)
+pub listed_ran : (turns : List Turn) (told mid : ScriptedRun) (k : ℕ) → length turns ≤ k → LeftOf turns told mid k → run_from step told.origin.scripts 0 (run_told told) turns ≡ ran (run_told mid)
 listed_ran turns told mid k past left = sym left ∙ ap (λ (ts : List Turn). run_from step mid.origin.scripts k (run_told mid) ts) (drop_all turns k past)
 
 -- what the log that is handed over has come to
 
-pub end_is : (next : Told) (log : Log) (b : Bool) → log.origin.state ≡ next.origin.state → log.journal.entries ≡ next.history → is_at_end (state_told next) ≡ b → is_at_end (state_of log) ≡ b
+pub end_is : (next : ScriptedRun) (log : Log) (b : Bool) → log.origin.state ≡ next.origin.state → log.journal.entries ≡ next.history → is_at_end (state_told next) ≡ b → is_at_end (state_of log) ≡ b
 end_is next log b state entries is =
     ap (λ (s : State). is_at_end (state_after s log.journal.entries)) state ∙ (ap (λ (es : List Entry). is_at_end (state_after next.origin.state es)) entries ∙ is)
 
-pub cut_short : (scene : SceneValue) (next : Told) (log : Log) → IsRunBy scene (serial_turns scene) log → log.journal.entries ≡ next.history → length next.history ≡ history_limit
+pub cut_short : (scene : SceneValue) (next : ScriptedRun) (log : Log) → IsRunBy scene (serial_turns scene) log → log.journal.entries ≡ next.history → length next.history ≡ history_limit
     → is_at_end (state_of log) ≡ false → IsCutShort scene log
 cut_short scene next log run entries full goes_on = record { run = run; full = ap length entries ∙ full; unfinished = goes_on }
 
 -- a history that follows the scripts of a lawful scene carries its frames in order
-pub told_carries : CarriedInOrder → (scene : SceneValue) (first told : Told) (log : Log) → IsLawfulScene scene → first.origin ≡ origin_of scene → told.origin ≡ first.origin
+pub told_carries : CarriedInOrder → (scene : SceneValue) (first told : ScriptedRun) (log : Log) → IsLawfulScene scene → first.origin ≡ origin_of scene → told.origin ≡ first.origin
     → log.journal.entries ≡ told.history → Legal told.origin.state told.history → FollowsScripts told.origin.scripts told.history → Carries scene log
 told_carries law scene first told log lawful first_is told_is entries_are legal follows honest =
     let origin : told.origin ≡ origin_of scene = told_is ∙ first_is in

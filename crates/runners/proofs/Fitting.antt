@@ -14,7 +14,7 @@ use Rattle.kernel_values.specs.declared.script.Command.{Command}
 use Rattle.kernel_types.specs.Scripts.{Stand, next_call, answered, stand_on, script_begin, calls_of}
 use Rattle.kernel_types.specs.Whole.{calls_in, answers_in, call_by, is_by, is_event_by, final_answer, InScript}
 use Rattle.runners.specs.declared.place.Place.{Place}
-use Rattle.runners.specs.Places.{Fits, pending, after_final, after_answer, first_place}
+use Rattle.runners.specs.Places.{PlaceFits, pending, after_final, after_answer, first_place}
 use Rattle.run_laws.proofs.Entries.{answers_more, calls_more, one_more}
 use Rattle.run_laws.proofs.Scripting.{calls_grow, calls_next, stand_more}
 
@@ -85,10 +85,10 @@ in_script_own number start script entries longer call answer a old begins many o
 ]
 
 fits_own : (number : ℕ) (script : List Command) (entries longer : List Entry) (place : Place) (call : Option Call) (answer : Option Answer)
-    → Fits number script entries place → Adds number place.actor.start entries longer call answer
+    → PlaceFits number script entries place → Adds number place.actor.start entries longer call answer
     → IsPrefix (calls_in number place.actor.start entries ++ one_more call) (calls_of script (answers_in number place.actor.start entries))
     → length (calls_in number place.actor.start entries ++ one_more call) ≡ length (answers_in number place.actor.start entries) + 1
-    → Fits number script longer (after_final place answer)
+    → PlaceFits number script longer (after_final place answer)
 fits_own number script entries longer place call None f a begins many = record {
   script_is = f.script_is;
   stand_is = f.stand_is ∙ ap (λ answers. stand_on script script_begin answers) (sym (a.answers ∙ append-nil _));
@@ -108,9 +108,9 @@ fits_own number script entries longer place call (Some answer) f a begins many =
     }
 
 -- its call
-pub fits_begin : (number start : ℕ) (script : List Command) (entries : List Entry) (entry : Entry) (place : Place) (call : Call) → Fits number script entries place
+pub fits_begin : (number start : ℕ) (script : List Command) (entries : List Entry) (entry : Entry) (place : Place) (call : Call) → PlaceFits number script entries place
     → place.waits ≡ false → place.actor.start ≡ start → next_call place.actor.script place.actor.stand ≡ Some call
-    → entry.event ≡ event.Begin (record { 0 = number }) start call → Fits number script (entries ++ entry ∷ []) (after_answer place entry.answer)
+    → entry.event ≡ event.Begin (record { 0 = number }) start call → PlaceFits number script (entries ++ entry ∷ []) (after_answer place entry.answer)
 fits_begin number start script entries entry place call f runs start_is next is =
     let s : ℕ = place.actor.start in
     let event_is : entry.event ≡ event.Begin (record { 0 = number }) s call = is ∙ ap (λ (n : ℕ). event.Begin (record { 0 = number }) n call) (sym start_is) in
@@ -123,9 +123,9 @@ fits_begin number start script entries entry place call f runs start_is next is 
     (calls_next script answers calls call (f.in_script s).0 even comes) (omega (arith, even, length-append calls (call ∷ [])))
 
 -- the end of its wait
-pub fits_resume : (number start : ℕ) (script : List Command) (entries : List Entry) (entry : Entry) (place : Place) → Fits number script entries place
+pub fits_resume : (number start : ℕ) (script : List Command) (entries : List Entry) (entry : Entry) (place : Place) → PlaceFits number script entries place
     → place.waits ≡ true → place.actor.start ≡ start
-    → entry.event ≡ event.Resume (record { 0 = number }) start → Fits number script (entries ++ entry ∷ []) (after_answer place entry.answer)
+    → entry.event ≡ event.Resume (record { 0 = number }) start → PlaceFits number script (entries ++ entry ∷ []) (after_answer place entry.answer)
 fits_resume number start script entries entry place f waits start_is is =
     let s : ℕ = place.actor.start in
     let event_is : entry.event ≡ event.Resume (record { 0 = number }) s = is ∙ ap (λ (n : ℕ). event.Resume (record { 0 = number }) n) (sym start_is) in
@@ -141,8 +141,8 @@ fits_resume number start script entries entry place f waits start_is is =
 abbrev pub IsNotBy : ℕ → Event → Type 0
 IsNotBy number e = (start : ℕ) → (call_by number start e ≡ None) × (is_event_by number start e ≡ false)
 
-pub fits_other : (number : ℕ) (script : List Command) (entries : List Entry) (entry : Entry) (place : Place) → IsNotBy number entry.event → Fits number script entries place
-    → Fits number script (entries ++ entry ∷ []) place
+pub fits_other : (number : ℕ) (script : List Command) (entries : List Entry) (entry : Entry) (place : Place) → IsNotBy number entry.event → PlaceFits number script entries place
+    → PlaceFits number script (entries ++ entry ∷ []) place
 fits_other number script entries entry place apart f =
     let same_calls : (s : ℕ) → calls_in number s (entries ++ entry ∷ []) ≡ calls_in number s entries =
     λ s. calls_more number s entries entry None (apart s).0 ∙ append-nil _ in
@@ -157,8 +157,8 @@ fits_other number script entries entry place apart f =
     }
 
 -- a new start
-pub fits_anew : (number start : ℕ) (script : List Command) (entries : List Entry) (place : Place) → Fits number script entries place → place.actor.start < start
-    → Fits number script entries (record { actor = acting script start; waits = false })
+pub fits_anew : (number start : ℕ) (script : List Command) (entries : List Entry) (place : Place) → PlaceFits number script entries place → place.actor.start < start
+    → PlaceFits number script entries (record { actor = acting script start; waits = false })
 fits_anew number start script entries place f after = record {
   script_is = refl;
   stand_is = ap (λ (answers : List Answer). stand_on script script_begin answers) (sym (f.later start after).1);
@@ -170,7 +170,7 @@ fits_anew number start script entries place f after = record {
 prefix_none : (calls : List Call) → IsPrefix [] calls
 prefix_none calls = (calls, refl)
 
-pub fits_first : (number : ℕ) (script : List Command) → Fits number script [] (first_place script)
+pub fits_first : (number : ℕ) (script : List Command) → PlaceFits number script [] (first_place script)
 unfolding calls_in answers_in
 fits_first number script = record {
   script_is = refl;

@@ -17,7 +17,7 @@ use Rattle.kernel_types.specs.Step.{Stepped, step}
 use Rattle.kernel_types.specs.Turns.{Run, grown, run_event, event_of, begin_if, begin_by_script, event_by_status}
 use Rattle.std.specs.Prelude.{slice_get}
 use Rattle.runners.specs.declared.steps.Taken.TheVariants as taken
-use Rattle.runners.specs.Runs.{Told, run_told, TookTurn}
+use Rattle.runners.specs.Runs.{ScriptedRun, run_told, TookTurn}
 use Rattle.runners.specs.Places.{is_answer_to, last_is_answer_to}
 use Rattle.runners.specs.Workers.{IsOwn, IsTurnOf, AddsOwn, Served}
 use Rattle.runners.specs.declared.rounds.Round.TheVariants as round
@@ -68,7 +68,7 @@ event_adds : (actor : ℕ) (run next : Run) (e : Option Event) → ((f : Event) 
 event_adds actor run next None own is = absurd (cc)
 event_adds actor run next (Some e) own is = step_adds actor run next e (step run.state e) (own e refl) refl is
 
-took_own : (actor : ℕ) (t : Turn) (told next : Told) → IsTurnOf actor t → TookTurn t told next taken.Stepped → AddsOwn actor told.history next.history
+took_own : (actor : ℕ) (t : Turn) (told next : ScriptedRun) → IsTurnOf actor t → TookTurn t told next taken.Stepped → AddsOwn actor told.history next.history
 took_own actor t told next is took =
     event_adds actor (run_told told) (run_told next) (event_of told.origin.scripts (run_told told) t) (λ e means. event_own told.origin.scripts (run_told told) actor t e is means) took
 
@@ -87,7 +87,7 @@ answer_by_last actor entries longer entry is =
       | Some last ↦ is_answer_to actor last
     ]) (last_entry entries entry)
 
-pub served_step : (actor : ℕ) (t : Turn) (told next : Told) (answered : Bool) → IsTurnOf actor t → TookTurn t told next taken.Stepped
+pub served_step : (actor : ℕ) (t : Turn) (told next : ScriptedRun) (answered : Bool) → IsTurnOf actor t → TookTurn t told next taken.Stepped
     → answered ≡ last_is_answer_to actor next.history → Served actor told next (round.Stepped answered)
 served_step actor t told next answered is took answered_is =
     let adds : AddsOwn actor told.history next.history = took_own actor t told next is took in

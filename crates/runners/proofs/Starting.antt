@@ -14,7 +14,7 @@ use Rattle.kernel_types.specs.Step.{statuses}
 use Rattle.kernel_types.specs.Turns.{history_limit}
 use Rattle.kernel_log.specs.Logs.{Log, state_of}
 use Rattle.runners.specs.declared.place.Place.{Place}
-use Rattle.runners.specs.Places.{Fits, Sound, first_place, most_actors}
+use Rattle.runners.specs.Places.{PlaceFits, Sound, first_place, most_actors}
 use Rattle.run_laws.proofs.Opening.{threads_many}
 use Rattle.runners.proofs.Fitting.{fits_first}
 
@@ -73,7 +73,7 @@ sound_new scene scripts places log scripts_is few places_is state_is made_is non
       kept = λ number script script_is. (
         first_place script,
         ap (λ (ps : List Place). slice_get ps number) places_is ∙ get_places scripts number script script_is,
-        subst (λ es. Fits number script es (first_place script)) (sym none_yet) (fits_first number script),
+        subst (λ es. PlaceFits number script es (first_place script)) (sym none_yet) (fits_first number script),
       );
       ran = λ number place place_is. inl (first_start scripts number place (sym (ap (λ (ps : List Place). slice_get ps number) places_is) ∙ place_is));
       opened = (scene, state_is);

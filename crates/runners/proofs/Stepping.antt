@@ -21,7 +21,7 @@ use Rattle.kernel_types.specs.Step.{Stepped, step, statuses}
 use Rattle.kernel_types.specs.Turns.{Run, grown, run_event, event_of, begin_if, history_limit}
 use Rattle.kernel_log.specs.Logs.{Log, state_of, Wrote}
 use Rattle.runners.specs.declared.place.Place.{Place}
-use Rattle.runners.specs.Places.{AllRan, Fits, HasRun, Kept, Sound}
+use Rattle.runners.specs.Places.{AllRan, PlaceFits, HasRun, PlacesFit, Sound}
 use Rattle.runners.specs.Runs.{run_logged}
 use Rattle.runners.specs.Steps.{IsSameLog}
 use Rattle.runners.proofs.Fitting.{IsNotBy, fits_other}
@@ -71,7 +71,7 @@ event_by log longer e at wrote =
 -- which event a turn of an actor means
 
 pub begin_means : (scripts : List (List Command)) (log : Log) (number start : ℕ) (script : List Command) (place : Place) (call : Option Call)
-    → slice_get scripts number ≡ Some script → Fits number script log.journal.entries place → place.actor.start ≡ start
+    → slice_get scripts number ≡ Some script → PlaceFits number script log.journal.entries place → place.actor.start ≡ start
     → status_at (state_of log) number ≡ Some (status.Running start) → next_call place.actor.script place.actor.stand ≡ call
     → event_of scripts (run_logged log) (turn.Actor number) ≡ begin_if number start call
 unfolding event_of
@@ -157,7 +157,7 @@ all_ran_set places s entries number place moved ran there own other x x_is = eli
 -- the places after a step
 
 rest_of_sound : (scripts : List (List Command)) (places moved : List Place) (log longer : Log) (e : Event) (at : ℕ) → Sound scripts places log → Wrote e log longer at
-    → length log.journal.entries < history_limit → length moved ≡ length places → Kept scripts moved longer.journal.entries
+    → length log.journal.entries < history_limit → length moved ≡ length places → PlacesFit scripts moved longer.journal.entries
     → AllRan moved log.origin.state log.journal.entries → Sound scripts moved longer
 rest_of_sound scripts places moved log longer e at sound wrote room many kept ran =
     let found : (stepped : Stepped) × (step (state_of log) e ≡ Some stepped) × (wrote.entry ≡ entry_of e stepped) = wrote_is (state_of log) e wrote.entry wrote.entry_is in
@@ -175,46 +175,46 @@ rest_of_sound scripts places moved log longer e at sound wrote room many kept ra
     }
 
 -- the place of the actor that made the step, put back
-pub kept_own : (scripts : List (List Command)) (places : List Place) (entries : List Entry) (entry : Entry) (number : ℕ) (place moved : Place) → Kept scripts places entries
+pub kept_own : (scripts : List (List Command)) (places : List Place) (entries : List Entry) (entry : Entry) (number : ℕ) (place moved : Place) → PlacesFit scripts places entries
     → slice_get places number ≡ Some place
-    → ((script : List Command) → slice_get scripts number ≡ Some script → Fits number script (entries ++ entry ∷ []) moved)
-    → ((other : ℕ) → (number ≡ other → ⊥) → IsNotBy other entry.event) → Kept scripts (slice_set places number moved) (entries ++ entry ∷ [])
+    → ((script : List Command) → slice_get scripts number ≡ Some script → PlaceFits number script (entries ++ entry ∷ []) moved)
+    → ((other : ℕ) → (number ≡ other → ⊥) → IsNotBy other entry.event) → PlacesFit scripts (slice_set places number moved) (entries ++ entry ∷ [])
 kept_own scripts places entries entry number place moved kept there own apart other script script_is = elim (cases_eq number other) [
   | inl same ↦ (
     moved,
     subst (λ (n : ℕ). slice_get (slice_set places number moved) n ≡ Some moved) same (get_set_same places number place moved there),
-    subst (λ (n : ℕ). Fits n script (entries ++ entry ∷ []) moved) same (own script (subst (λ (n : ℕ). slice_get scripts n ≡ Some script) (sym same) script_is)),
+    subst (λ (n : ℕ). PlaceFits n script (entries ++ entry ∷ []) moved) same (own script (subst (λ (n : ℕ). slice_get scripts n ≡ Some script) (sym same) script_is)),
   )
-  | inr differs ↦ (let old : (x : Place) × (slice_get places other ≡ Some x) × Fits other script entries x = kept other script script_is in
+  | inr differs ↦ (let old : (x : Place) × (slice_get places other ≡ Some x) × PlaceFits other script entries x = kept other script script_is in
       (old.0, get_set_other places number other moved differs ∙ old.1, fits_other other script entries entry old.0 (apart other differs) old.2))
 ]
 
 -- one place put back
-pub kept_one : (scripts : List (List Command)) (places : List Place) (entries : List Entry) (number : ℕ) (place moved : Place) → Kept scripts places entries
-    → slice_get places number ≡ Some place → ((script : List Command) → slice_get scripts number ≡ Some script → Fits number script entries moved)
-    → Kept scripts (slice_set places number moved) entries
+pub kept_one : (scripts : List (List Command)) (places : List Place) (entries : List Entry) (number : ℕ) (place moved : Place) → PlacesFit scripts places entries
+    → slice_get places number ≡ Some place → ((script : List Command) → slice_get scripts number ≡ Some script → PlaceFits number script entries moved)
+    → PlacesFit scripts (slice_set places number moved) entries
 kept_one scripts places entries number place moved kept there own other script script_is = elim (cases_eq number other) [
   | inl same ↦ (
     moved,
     subst (λ (n : ℕ). slice_get (slice_set places number moved) n ≡ Some moved) same (get_set_same places number place moved there),
-    subst (λ (n : ℕ). Fits n script entries moved) same (own script (subst (λ (n : ℕ). slice_get scripts n ≡ Some script) (sym same) script_is)),
+    subst (λ (n : ℕ). PlaceFits n script entries moved) same (own script (subst (λ (n : ℕ). slice_get scripts n ≡ Some script) (sym same) script_is)),
   )
-  | inr differs ↦ (let old : (x : Place) × (slice_get places other ≡ Some x) × Fits other script entries x = kept other script script_is in
+  | inr differs ↦ (let old : (x : Place) × (slice_get places other ≡ Some x) × PlaceFits other script entries x = kept other script script_is in
       (old.0, get_set_other places number other moved differs ∙ old.1, old.2))
 ]
 
 -- after a step of an actor
 pub sound_own : (scripts : List (List Command)) (places : List Place) (log longer : Log) (e : Event) (at number : ℕ) (place moved : Place) → Sound scripts places log → (wrote : Wrote e log longer at)
     → length log.journal.entries < history_limit → slice_get places number ≡ Some place → moved.actor.start ≡ place.actor.start
-    → ((script : List Command) → slice_get scripts number ≡ Some script → Fits number script (log.journal.entries ++ wrote.entry ∷ []) moved)
+    → ((script : List Command) → slice_get scripts number ≡ Some script → PlaceFits number script (log.journal.entries ++ wrote.entry ∷ []) moved)
     → ((other : ℕ) → (number ≡ other → ⊥) → IsNotBy other e) → Sound scripts (slice_set places number moved) longer
 sound_own scripts places log longer e at number place moved sound wrote room there same_start own apart =
     let is : wrote.entry.event ≡ e = event_by log longer e at wrote in
-    let kept : Kept scripts (slice_set places number moved) (log.journal.entries ++ wrote.entry ∷ []) =
+    let kept : PlacesFit scripts (slice_set places number moved) (log.journal.entries ++ wrote.entry ∷ []) =
     kept_own scripts places log.journal.entries wrote.entry number place moved sound.kept there own
     (λ other differs. subst (λ (f : Event). IsNotBy other f) (sym is) (apart other differs)) in
     rest_of_sound scripts places (slice_set places number moved) log longer e at sound wrote room (length_set places number moved)
-    (subst (λ (es : List Entry). Kept scripts (slice_set places number moved) es) (sym wrote.entries_are) kept)
+    (subst (λ (es : List Entry). PlacesFit scripts (slice_set places number moved) es) (sym wrote.entries_are) kept)
     (all_ran_set places log.origin.state log.journal.entries number place moved sound.ran there
     (subst (λ n. HasRun log.origin.state log.journal.entries number n) (sym same_start) (sound.ran number place there)))
 
@@ -223,17 +223,17 @@ pub sound_free : (scripts : List (List Command)) (places : List Place) (log long
     → length log.journal.entries < history_limit → ((other : ℕ) → IsNotBy other e) → Sound scripts places longer
 sound_free scripts places log longer e at sound wrote room apart =
     let is : wrote.entry.event ≡ e = event_by log longer e at wrote in
-    let kept : Kept scripts places (log.journal.entries ++ wrote.entry ∷ []) = λ other script script_is.
-    (let old : (x : Place) × (slice_get places other ≡ Some x) × Fits other script log.journal.entries x = sound.kept other script script_is in
+    let kept : PlacesFit scripts places (log.journal.entries ++ wrote.entry ∷ []) = λ other script script_is.
+    (let old : (x : Place) × (slice_get places other ≡ Some x) × PlaceFits other script log.journal.entries x = sound.kept other script script_is in
     (old.0, old.1, fits_other other script log.journal.entries wrote.entry old.0 (subst (λ (f : Event). IsNotBy other f) (sym is) (apart other)) old.2)) in
-    rest_of_sound scripts places places log longer e at sound wrote room refl (subst (λ (es : List Entry). Kept scripts places es) (sym wrote.entries_are) kept) sound.ran
+    rest_of_sound scripts places places log longer e at sound wrote room refl (subst (λ (es : List Entry). PlacesFit scripts places es) (sym wrote.entries_are) kept) sound.ran
 
 -- where nothing was written
 pub sound_same : (scripts : List (List Command)) (places : List Place) (log same : Log) → Sound scripts places log → IsSameLog log same → Sound scripts places same
 sound_same scripts places log same sound is =
     let state : state_of same ≡ state_of log = ap (λ (s : State). state_after s same.journal.entries) (ap (λ o. o.state) is.0) ∙ ap (λ (es : List Entry). state_after log.origin.state es) is.1 in
     record {
-      kept = subst (λ (es : List Entry). Kept scripts places es) (sym is.1) sound.kept;
+      kept = subst (λ (es : List Entry). PlacesFit scripts places es) (sym is.1) sound.kept;
       ran = subst (λ (s : State). AllRan places s same.journal.entries) (sym (ap (λ o. o.state) is.0)) (subst (λ (es : List Entry). AllRan places log.origin.state es) (sym is.1) sound.ran);
       opened = (sound.opened.0, ap (λ o. o.state) is.0 ∙ sound.opened.1);
       many = sound.many;

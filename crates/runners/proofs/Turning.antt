@@ -33,46 +33,46 @@ use Rattle.runners.specs.declared.steps.Taken.{Taken}
 use Rattle.runners.specs.declared.steps.Taken.TheVariants as taken
 use Rattle.run_laws.specs.Answered.{HasAnswers, IsFrom, Open}
 use Rattle.run_laws.proofs.Answering.{first_rises, has_answers, starts_rise}
-use Rattle.runners.specs.Places.{Fits, HasRun, Sound, after_answer, after_final, anew, pending}
-use Rattle.runners.specs.Runs.{Told, told_of, state_told, run_told, run_logged, TookTurn}
+use Rattle.runners.specs.Places.{PlaceFits, HasRun, Sound, after_answer, after_final, anew, pending}
+use Rattle.runners.specs.Runs.{ScriptedRun, told_of, state_told, run_told, run_logged, TookTurn}
 use Rattle.runners.specs.Steps.{IsSameLog, MadeBy}
 use Rattle.runners.proofs.Fitting.{IsNotBy, fits_begin, fits_resume, fits_anew}
 use Rattle.runners.proofs.Stepping.{took_event, event_by, begin_means, resume_means, all_ran_set, begin_not_by, resume_not_by, get_set_same, length_set, kept_one, sound_own, sound_same}
 
 -- what stands in the type
 
-pub follows_told : (told : Told) (scripts : List (List Command)) (places : List Place) (log : Log) → told ≡ told_of scripts log → Sound scripts places log
+pub follows_told : (told : ScriptedRun) (scripts : List (List Command)) (places : List Place) (log : Log) → told ≡ told_of scripts log → Sound scripts places log
     → FollowsScripts told.origin.scripts told.history
 follows_told told scripts places log is sound =
-    subst (λ (t : Told). FollowsScripts t.origin.scripts t.history) (sym is)
-    (λ actor start script script_is. (let kept : (x : Place) × (slice_get places actor ≡ Some x) × Fits actor script log.journal.entries x = sound.kept actor script script_is in kept.2.in_script start))
+    subst (λ (t : ScriptedRun). FollowsScripts t.origin.scripts t.history) (sym is)
+    (λ actor start script script_is. (let kept : (x : Place) × (slice_get places actor ≡ Some x) × PlaceFits actor script log.journal.entries x = sound.kept actor script script_is in kept.2.in_script start))
 
-pub may_step : (told : Told) (scripts : List (List Command)) (places : List Place) (log : Log) → told ≡ told_of scripts log → Sound scripts places log
+pub may_step : (told : ScriptedRun) (scripts : List (List Command)) (places : List Place) (log : Log) → told ≡ told_of scripts log → Sound scripts places log
     → length told.history < history_limit → made_by log < step_limit
 unfolding history_limit step_limit
 may_step told scripts places log is sound room =
-    let same : length told.history ≡ length log.journal.entries = ap (λ (t : Told). length t.history) is in
+    let same : length told.history ≡ length log.journal.entries = ap (λ (t : ScriptedRun). length t.history) is in
     omega (arith, same, room, sound.fresh)
 
-pub room_is : (told : Told) (scripts : List (List Command)) (log : Log) → told ≡ told_of scripts log → length told.history < history_limit → length log.journal.entries < history_limit
-room_is told scripts log is room = subst (λ (t : Told). length t.history < history_limit) is room
+pub room_is : (told : ScriptedRun) (scripts : List (List Command)) (log : Log) → told ≡ told_of scripts log → length told.history < history_limit → length log.journal.entries < history_limit
+room_is told scripts log is room = subst (λ (t : ScriptedRun). length t.history < history_limit) is room
 
 -- turns
 
-pub took_turn : (t : Turn) (told : Told) (scripts : List (List Command)) (log longer : Log) (e : Event) (at : ℕ) → told ≡ told_of scripts log
+pub took_turn : (t : Turn) (told : ScriptedRun) (scripts : List (List Command)) (log longer : Log) (e : Event) (at : ℕ) → told ≡ told_of scripts log
     → event_of scripts (run_logged log) t ≡ Some e → Wrote e log longer at → run_turn step told.origin.scripts (run_told told) t ≡ Some (run_logged longer)
 took_turn t told scripts log longer e at is means wrote =
-    ap (λ (u : Told). run_turn step u.origin.scripts (run_told u) t) is ∙ (ap (λ (o : Option Event). run_event step (run_logged log) o) means ∙ took_event log longer e at wrote)
+    ap (λ (u : ScriptedRun). run_turn step u.origin.scripts (run_told u) t) is ∙ (ap (λ (o : Option Event). run_event step (run_logged log) o) means ∙ took_event log longer e at wrote)
 
-pub unlawful_turn : (t : Turn) (told : Told) (scripts : List (List Command)) (log : Log) (e : Event) → told ≡ told_of scripts log
+pub unlawful_turn : (t : Turn) (told : ScriptedRun) (scripts : List (List Command)) (log : Log) (e : Event) → told ≡ told_of scripts log
     → event_of scripts (run_logged log) t ≡ Some e → step (state_of log) e ≡ None → run_turn step told.origin.scripts (run_told told) t ≡ None
 unlawful_turn t told scripts log e is means never =
-    ap (λ (u : Told). run_turn step u.origin.scripts (run_told u) t) is ∙ (ap (λ (o : Option Event). run_event step (run_logged log) o) means ∙ ap (λ (r : Option Stepped). option_map (grown (run_logged log) e) r) never)
+    ap (λ (u : ScriptedRun). run_turn step u.origin.scripts (run_told u) t) is ∙ (ap (λ (o : Option Event). run_event step (run_logged log) o) means ∙ ap (λ (r : Option Stepped). option_map (grown (run_logged log) e) r) never)
 
-pub nothing_turn : (t : Turn) (told : Told) (scripts : List (List Command)) (log : Log) → told ≡ told_of scripts log
+pub nothing_turn : (t : Turn) (told : ScriptedRun) (scripts : List (List Command)) (log : Log) → told ≡ told_of scripts log
     → event_of scripts (run_logged log) t ≡ None → run_turn step told.origin.scripts (run_told told) t ≡ None
 nothing_turn t told scripts log is means =
-    ap (λ (u : Told). run_turn step u.origin.scripts (run_told u) t) is ∙ ap (λ (o : Option Event). run_event step (run_logged log) o) means
+    ap (λ (u : ScriptedRun). run_turn step u.origin.scripts (run_told u) t) is ∙ ap (λ (o : Option Event). run_event step (run_logged log) o) means
 
 pub device_means : (scripts : List (List Command)) (run : Run) → event_of scripts run turn.Device ≡ Some event.Device
 unfolding event_of
@@ -127,24 +127,24 @@ same_start place given = same_start_final place (final_answer given)
 
 pub sound_step : (result : Result Taken NoMemory) (scripts : List (List Command)) (places : List Place) (log after : Log) (e : Event) (number : ℕ) (place moved : Place) → Sound scripts places log
     → length log.journal.entries < history_limit → slice_get places number ≡ Some place
-    → ((script : List Command) (entry : Entry) → slice_get scripts number ≡ Some script → entry.event ≡ e → Fits number script (log.journal.entries ++ entry ∷ []) (after_answer place entry.answer))
+    → ((script : List Command) (entry : Entry) → slice_get scripts number ≡ Some script → entry.event ≡ e → PlaceFits number script (log.journal.entries ++ entry ∷ []) (after_answer place entry.answer))
     → ((other : ℕ) → (number ≡ other → ⊥) → IsNotBy other e)
     → IfOk result (λ came. MadeBy e log after place moved came) → OnErr result (IsSameLog log after) → OnErr result (moved ≡ place)
     → Sound scripts (slice_set places number moved) after
 sound_step (Ok taken.Stepped) scripts places log after e number place moved sound room there own apart made same stays =
     sound_own scripts places log after e made.0 number place moved sound made.1 room there (ap (λ (p : Place). p.actor.start) made.2 ∙ same_start place made.1.entry.answer)
-    (λ script script_is. subst (λ (p : Place). Fits number script (log.journal.entries ++ made.1.entry ∷ []) p) (sym made.2) (own script made.1.entry script_is (event_by log after e made.0 made.1))) apart
+    (λ script script_is. subst (λ (p : Place). PlaceFits number script (log.journal.entries ++ made.1.entry ∷ []) p) (sym made.2) (own script made.1.entry script_is (event_by log after e made.0 made.1))) apart
 sound_step (Ok taken.Unlawful) scripts places log after e number place moved sound room there own apart made same stays =
     sound_stays scripts places log after number place moved sound made.1 there made.2
 sound_step (Err refused) scripts places log after e number place moved sound room there own apart made same stays =
     sound_stays scripts places log after number place moved sound same there stays
 
-pub taken_step : (result : Result Taken NoMemory) (t : Turn) (told : Told) (scripts : List (List Command)) (log after : Log) (e : Event) (place moved : Place) → told ≡ told_of scripts log
+pub taken_step : (result : Result Taken NoMemory) (t : Turn) (told : ScriptedRun) (scripts : List (List Command)) (log after : Log) (e : Event) (place moved : Place) → told ≡ told_of scripts log
     → event_of scripts (run_logged log) t ≡ Some e → IfOk result (λ came. MadeBy e log after place moved came)
     → IfOk result (λ came. TookTurn t told (told_of scripts after) came)
 taken_step (Ok taken.Stepped) t told scripts log after e place moved is means made = took_turn t told scripts log after e made.0 is means made.1
 taken_step (Ok taken.Unlawful) t told scripts log after e place moved is means made =
-    (unlawful_turn t told scripts log e is means made.0, made.1.1 ∙ sym (ap (λ (u : Told). u.history) is))
+    (unlawful_turn t told scripts log e is means made.0, made.1.1 ∙ sym (ap (λ (u : ScriptedRun). u.history) is))
 taken_step (Err refused) t told scripts log after e place moved is means made = made
 
 -- the place of an actor that has a script
@@ -163,9 +163,9 @@ pub sound_anew : (scripts : List (List Command)) (places : List Place) (log : Lo
 sound_anew scripts places log number start script place fresh sound script_is there later is runs = record {
   kept = kept_one scripts places log.journal.entries number place fresh sound.kept there
       (λ other_script other_is. (let same : other_script ≡ script = cc (other_is, script_is) in
-      subst (λ (s : List Command). Fits number s log.journal.entries fresh) (sym same)
-      (subst (λ (p : Place). Fits number script log.journal.entries p) (sym is)
-      (let kept : (x : Place) × (slice_get places number ≡ Some x) × Fits number script log.journal.entries x = sound.kept number script script_is in
+      subst (λ (s : List Command). PlaceFits number s log.journal.entries fresh) (sym same)
+      (subst (λ (p : Place). PlaceFits number script log.journal.entries p) (sym is)
+      (let kept : (x : Place) × (slice_get places number ≡ Some x) × PlaceFits number script log.journal.entries x = sound.kept number script script_is in
       let one : kept.0 ≡ place = cc (kept.1, there) in
       fits_anew number start script log.journal.entries kept.0 kept.2 (subst (λ (p : Place). p.actor.start < start) (sym one) later)))));
   ran = all_ran_set places log.origin.state log.journal.entries number place fresh sound.ran there
@@ -205,23 +205,23 @@ start_at start script place = start_at_by start script place (nat_lt place.actor
 -- of the actor at a place
 
 fits_there : (scripts : List (List Command)) (places : List Place) (log : Log) (number : ℕ) (script : List Command) (place : Place) → Sound scripts places log
-    → slice_get scripts number ≡ Some script → slice_get places number ≡ Some place → Fits number script log.journal.entries place
+    → slice_get scripts number ≡ Some script → slice_get places number ≡ Some place → PlaceFits number script log.journal.entries place
 fits_there scripts places log number script place sound script_is there =
-    let kept : (x : Place) × (slice_get places number ≡ Some x) × Fits number script log.journal.entries x = sound.kept number script script_is in
+    let kept : (x : Place) × (slice_get places number ≡ Some x) × PlaceFits number script log.journal.entries x = sound.kept number script script_is in
     let one : kept.0 ≡ place = cc (kept.1, there) in
-    subst (λ (p : Place). Fits number script log.journal.entries p) one kept.2
+    subst (λ (p : Place). PlaceFits number script log.journal.entries p) one kept.2
 
 pub call_fits : (scripts : List (List Command)) (places : List Place) (log : Log) (number start : ℕ) (place : Place) (what : Call) → Sound scripts places log → slice_get places number ≡ Some place
     → place.waits ≡ false → place.actor.start ≡ start → next_call place.actor.script place.actor.stand ≡ Some what
     → (script : List Command) (entry : Entry) → slice_get scripts number ≡ Some script → entry.event ≡ event.Begin (record { 0 = number }) start what
-    → Fits number script (log.journal.entries ++ entry ∷ []) (after_answer place entry.answer)
+    → PlaceFits number script (log.journal.entries ++ entry ∷ []) (after_answer place entry.answer)
 call_fits scripts places log number start place what sound there runs start_is next script entry script_is is =
     fits_begin number start script log.journal.entries entry place what (fits_there scripts places log number script place sound script_is there) runs start_is next is
 
 pub resume_fits : (scripts : List (List Command)) (places : List Place) (log : Log) (number start : ℕ) (place : Place) → Sound scripts places log → slice_get places number ≡ Some place
     → place.waits ≡ true → place.actor.start ≡ start
     → (script : List Command) (entry : Entry) → slice_get scripts number ≡ Some script → entry.event ≡ event.Resume (record { 0 = number }) start
-    → Fits number script (log.journal.entries ++ entry ∷ []) (after_answer place entry.answer)
+    → PlaceFits number script (log.journal.entries ++ entry ∷ []) (after_answer place entry.answer)
 resume_fits scripts places log number start place sound there waits start_is script entry script_is is =
     fits_resume number start script log.journal.entries entry place (fits_there scripts places log number script place sound script_is there) waits start_is is
 
@@ -286,7 +286,7 @@ pub runs_in_step : (scripts : List (List Command)) (places : List Place) (log : 
 runs_in_step scripts places log number start place sound legal there runs low =
     let entries : List Entry = log.journal.entries in
     let script : (c : List Command) × (slice_get scripts number ≡ Some c) = has_script scripts places log number (status.Running start) sound runs in
-    let f : Fits number script.0 entries place = fits_there scripts places log number script.0 place sound script.1 there in
+    let f : PlaceFits number script.0 entries place = fits_there scripts places log number script.0 place sound script.1 there in
     let rise : IsFrom place.actor.start (Some (status.Running start)) = rises scripts places log number place (status.Running start) sound legal there runs in
     let same : place.actor.start ≡ start = omega (arith, rise, low) in
     let even : Open 0 number start entries = answered_so scripts places log number (status.Running start) sound legal runs in
@@ -300,7 +300,7 @@ pub waits_in_step : (scripts : List (List Command)) (places : List Place) (log :
 waits_in_step scripts places log number start place sound legal there waits =
     let entries : List Entry = log.journal.entries in
     let script : (c : List Command) × (slice_get scripts number ≡ Some c) = has_script scripts places log number (status.Waiting start) sound waits in
-    let f : Fits number script.0 entries place = fits_there scripts places log number script.0 place sound script.1 there in
+    let f : PlaceFits number script.0 entries place = fits_there scripts places log number script.0 place sound script.1 there in
     let rise : IsFrom place.actor.start (Some (status.Waiting start)) = rises scripts places log number place (status.Waiting start) sound legal there waits in
     let odd : Open 1 number start entries = answered_so scripts places log number (status.Waiting start) sound legal waits in
     let same : place.actor.start ≡ start = elim (cases_lt place.actor.start start) [
@@ -313,7 +313,7 @@ waits_in_step scripts places log number start place sound legal there waits =
 
 -- the turn of an actor that runs, and of one that waits
 
-pub record Stands (told : Told) (scripts : List (List Command)) (places : List Place) (log : Log) (number start : ℕ) (place : Place) (what : ActorStatus) : Type 0 where
+pub record Stands (told : ScriptedRun) (scripts : List (List Command)) (places : List Place) (log : Log) (number start : ℕ) (place : Place) (what : ActorStatus) : Type 0 where
   is : told ≡ told_of scripts log
   pub sound : Sound scripts places log
   status_is : status_at (state_of log) number ≡ Some what
@@ -327,21 +327,21 @@ at_place scripts places log number place what sound status_is place_is =
     let below : number < length places = omega (arith, slice_get_within (statuses (state_of log)) number what status_is, sound.many, sound.actors) in
     slice_get-get_or places number place below ∙ ap (λ (p : Place). Some p) (sym place_is)
 
-pub stands_waiting : (told : Told) (scripts : List (List Command)) (places : List Place) (log : Log) (number start : ℕ) (place : Place) → told ≡ told_of scripts log
+pub stands_waiting : (told : ScriptedRun) (scripts : List (List Command)) (places : List Place) (log : Log) (number start : ℕ) (place : Place) → told ≡ told_of scripts log
     → Sound scripts places log → Legal log.origin.state log.journal.entries → status_at (state_told told) number ≡ Some (status.Waiting start) → place ≡ get_or places number place
     → Stands told scripts places log number start place (status.Waiting start)
 stands_waiting told scripts places log number start place is sound legal status_is place_is =
-    let waits : status_at (state_of log) number ≡ Some (status.Waiting start) = subst (λ (t : Told). status_at (state_told t) number ≡ Some (status.Waiting start)) is status_is in
+    let waits : status_at (state_of log) number ≡ Some (status.Waiting start) = subst (λ (t : ScriptedRun). status_at (state_told t) number ≡ Some (status.Waiting start)) is status_is in
     let there : slice_get places number ≡ Some place = at_place scripts places log number place (status.Waiting start) sound waits place_is in
     record { is = is; sound = sound; status_is = waits; there = there; in_step = waits_in_step scripts places log number start place sound legal there waits }
 
 -- with the place of an actor that runs, by its start
-pub stands_running : (told : Told) (scripts : List (List Command)) (places : List Place) (log : Log) (number start : ℕ) (script : List Command) (place now : Place) → told ≡ told_of scripts log
+pub stands_running : (told : ScriptedRun) (scripts : List (List Command)) (places : List Place) (log : Log) (number start : ℕ) (script : List Command) (place now : Place) → told ≡ told_of scripts log
     → Sound scripts places log → Legal log.origin.state log.journal.entries → status_at (state_told told) number ≡ Some (status.Running start)
     → slice_get scripts number ≡ Some script → place ≡ get_or places number place → now ≡ anew script start place
     → Stands told scripts (slice_set places number now) log number start now (status.Running start)
 stands_running told scripts places log number start script place now is sound legal status_is script_is place_is now_is =
-    let runs : status_at (state_of log) number ≡ Some (status.Running start) = subst (λ (t : Told). status_at (state_told t) number ≡ Some (status.Running start)) is status_is in
+    let runs : status_at (state_of log) number ≡ Some (status.Running start) = subst (λ (t : ScriptedRun). status_at (state_told t) number ≡ Some (status.Running start)) is status_is in
     let there : slice_get places number ≡ Some place = at_place scripts places log number place (status.Running start) sound runs place_is in
     let sound_now : Sound scripts (slice_set places number now) log =
     subst (λ (p : Place). Sound scripts (slice_set places number p) log) (sym now_is) (sound_at scripts places log number start script place sound script_is there runs) in
@@ -355,19 +355,19 @@ stands_running told scripts places log number start script place now is sound le
           (subst (λ (p : Place). start ≤ p.actor.start) (sym now_is) (start_at start script place));
     }
 
-calls : (told : Told) (scripts : List (List Command)) (places : List Place) (log : Log) (number start : ℕ) (place : Place) (what : Option Call)
+calls : (told : ScriptedRun) (scripts : List (List Command)) (places : List Place) (log : Log) (number start : ℕ) (place : Place) (what : Option Call)
     → Stands told scripts places log number start place (status.Running start) → next_call place.actor.script place.actor.stand ≡ what
     → event_of scripts (run_logged log) (turn.Actor number) ≡ begin_if number start what
 calls told scripts places log number start place what s next =
     let script : (c : List Command) × (slice_get scripts number ≡ Some c) = has_script scripts places log number (status.Running start) s.sound s.status_is in
     call_means scripts places log number start script.0 place what s.sound script.1 s.there s.in_step.start_is s.status_is next
 
-pub over_call : (told : Told) (scripts : List (List Command)) (places : List Place) (log : Log) (number start : ℕ) (place : Place)
+pub over_call : (told : ScriptedRun) (scripts : List (List Command)) (places : List Place) (log : Log) (number start : ℕ) (place : Place)
     → Stands told scripts places log number start place (status.Running start) → next_call place.actor.script place.actor.stand ≡ None
     → run_turn step told.origin.scripts (run_told told) (turn.Actor number) ≡ None
 over_call told scripts places log number start place s next = nothing_turn (turn.Actor number) told scripts log s.is (calls told scripts places log number start place None s next)
 
-pub sound_call : (result : Result Taken NoMemory) (told : Told) (scripts : List (List Command)) (places : List Place) (log after : Log) (number start : ℕ) (place moved : Place) (what : Call)
+pub sound_call : (result : Result Taken NoMemory) (told : ScriptedRun) (scripts : List (List Command)) (places : List Place) (log after : Log) (number start : ℕ) (place moved : Place) (what : Call)
     → Stands told scripts places log number start place (status.Running start) → length told.history < history_limit
     → next_call place.actor.script place.actor.stand ≡ Some what → IfOk result (λ came. MadeBy (event.Begin (record { 0 = number }) start what) log after place moved came)
     → OnErr result (IsSameLog log after) → OnErr result (moved ≡ place) → Sound scripts (slice_set places number moved) after
@@ -375,7 +375,7 @@ sound_call result told scripts places log after number start place moved what s 
     sound_step result scripts places log after (event.Begin (record { 0 = number }) start what) number place moved s.sound (room_is told scripts log s.is room) s.there
     (call_fits scripts places log number start place what s.sound s.there s.in_step.waits_is s.in_step.start_is next) (begin_not_by number start what) made same stays
 
-pub taken_call : (result : Result Taken NoMemory) (told : Told) (scripts : List (List Command)) (places : List Place) (log after : Log) (number start : ℕ) (place moved : Place) (what : Call)
+pub taken_call : (result : Result Taken NoMemory) (told : ScriptedRun) (scripts : List (List Command)) (places : List Place) (log after : Log) (number start : ℕ) (place moved : Place) (what : Call)
     → Stands told scripts places log number start place (status.Running start) → next_call place.actor.script place.actor.stand ≡ Some what
     → IfOk result (λ came. MadeBy (event.Begin (record { 0 = number }) start what) log after place moved came)
     → IfOk result (λ came. TookTurn (turn.Actor number) told (told_of scripts after) came)
@@ -383,7 +383,7 @@ taken_call result told scripts places log after number start place moved what s 
     taken_step result (turn.Actor number) told scripts log after (event.Begin (record { 0 = number }) start what) place moved s.is
     (calls told scripts places log number start place (Some what) s next) made
 
-pub sound_resume : (result : Result Taken NoMemory) (told : Told) (scripts : List (List Command)) (places : List Place) (log after : Log) (number start : ℕ) (place moved : Place)
+pub sound_resume : (result : Result Taken NoMemory) (told : ScriptedRun) (scripts : List (List Command)) (places : List Place) (log after : Log) (number start : ℕ) (place moved : Place)
     → Stands told scripts places log number start place (status.Waiting start) → length told.history < history_limit
     → IfOk result (λ came. MadeBy (event.Resume (record { 0 = number }) start) log after place moved came)
     → OnErr result (IsSameLog log after) → OnErr result (moved ≡ place) → Sound scripts (slice_set places number moved) after
@@ -391,7 +391,7 @@ sound_resume result told scripts places log after number start place moved s roo
     sound_step result scripts places log after (event.Resume (record { 0 = number }) start) number place moved s.sound (room_is told scripts log s.is room) s.there
     (resume_fits scripts places log number start place s.sound s.there s.in_step.waits_is s.in_step.start_is) (resume_not_by number start) made same stays
 
-pub taken_resume : (result : Result Taken NoMemory) (told : Told) (scripts : List (List Command)) (places : List Place) (log after : Log) (number start : ℕ) (place moved : Place)
+pub taken_resume : (result : Result Taken NoMemory) (told : ScriptedRun) (scripts : List (List Command)) (places : List Place) (log after : Log) (number start : ℕ) (place moved : Place)
     → Stands told scripts places log number start place (status.Waiting start)
     → IfOk result (λ came. MadeBy (event.Resume (record { 0 = number }) start) log after place moved came)
     → IfOk result (λ came. TookTurn (turn.Actor number) told (told_of scripts after) came)

@@ -16,7 +16,7 @@ use Rattle.turnstile.specs.Views.{entered, waited, left, added}
 use Rattle.turnstile.proofs.Begins.{begins_on}
 use Rattle.runners.specs.declared.rounds.Round.{Round}
 use Rattle.runners.specs.declared.rounds.Round.TheVariants as round
-use Rattle.runners.specs.Runs.{Told, state_told, IsRun, IsRunToEnd, IsRunToLimit}
+use Rattle.runners.specs.Runs.{ScriptedRun, state_told, IsRun, IsRunToEnd, IsRunToLimit}
 use Rattle.runners.specs.Workers.{AddsOwn, Served, IsOwnAt, GrewByOwn, WentOn, EndsBy, is_step}
 
 -- entries of a longer history
@@ -36,17 +36,17 @@ own_longer actor seen longer place begins own =
 
 -- what one history has, a view that saw it has
 
-record Saw (w : View) (told : Told) : Type 0 where
+record Saw (w : View) (told : ScriptedRun) : Type 0 where
   seen : w.seen ≡ told.history
   origin : w.origin ≡ told.origin
 
 -- what a run that is shared keeps
-pub record Keeps (told : Told) : Type 0 where
+pub record IsSoFar (told : ScriptedRun) : Type 0 where
   pub legal : Legal told.origin.state told.history
   pub follows : FollowsScripts told.origin.scripts told.history
   pub short : length told.history ≤ history_limit
 
-went : (actor : ℕ) (v w : View) (told : Told) → Saw w told → Keeps told → w.number ≡ v.number → IsPrefix v.seen told.history → GrewByOwn actor v w → WentOn actor v w
+went : (actor : ℕ) (v w : View) (told : ScriptedRun) → Saw w told → IsSoFar told → w.number ≡ v.number → IsPrefix v.seen told.history → GrewByOwn actor v w → WentOn actor v w
 went actor v w told saw keeps number begins grew = record {
   number_is = number;
   seen = subst (λ (es : List Entry). IsPrefix v.seen es) (sym saw.seen) begins;
@@ -58,15 +58,15 @@ went actor v w told saw keeps number begins grew = record {
 
 -- the value was given back as it was
 
-saw_same : (v u w : View) (tries last : ℕ) (told next : Told) → u ≡ entered (waited v tries last) told.history → w ≡ left u → v.origin ≡ told.origin
+saw_same : (v u w : View) (tries last : ℕ) (told next : ScriptedRun) → u ≡ entered (waited v tries last) told.history → w ≡ left u → v.origin ≡ told.origin
     → next.history ≡ told.history → next.origin ≡ told.origin → Saw w next
 saw_same v u w tries last told next in_is out_is from stays origin = record {
   seen = ap (λ (x : View). x.seen) out_is ∙ (ap (λ (x : View). x.seen) in_is ∙ sym stays);
   origin = ap (λ (x : View). x.origin) out_is ∙ (ap (λ (x : View). x.origin) in_is ∙ (from ∙ sym origin));
 }
 
-pub went_same : (actor : ℕ) (v u w : View) (tries last : ℕ) (told next : Told) → u ≡ entered (waited v tries last) told.history → w ≡ left u → v.origin ≡ told.origin
-    → IsPrefix v.seen told.history → next.history ≡ told.history → next.origin ≡ told.origin → Keeps next → WentOn actor v w
+pub went_same : (actor : ℕ) (v u w : View) (tries last : ℕ) (told next : ScriptedRun) → u ≡ entered (waited v tries last) told.history → w ≡ left u → v.origin ≡ told.origin
+    → IsPrefix v.seen told.history → next.history ≡ told.history → next.origin ≡ told.origin → IsSoFar next → WentOn actor v w
 went_same actor v u w tries last told next in_is out_is from begins stays origin keeps =
     went actor v w next (saw_same v u w tries last told next in_is out_is from stays origin) keeps
     (ap (λ (x : View). x.number) out_is ∙ ap (λ (x : View). x.number) in_is)
@@ -77,11 +77,11 @@ went_same actor v u w tries last told next in_is out_is from begins stays origin
       own = All-nil (IsOwnAt actor w.seen);
     })
 
-at_end : (w : View) (told : Told) → Saw w told → is_at_end (state_after w.origin.state w.seen) ≡ is_at_end (state_told told)
+at_end : (w : View) (told : ScriptedRun) → Saw w told → is_at_end (state_after w.origin.state w.seen) ≡ is_at_end (state_told told)
 at_end w told saw =
     ap (λ (es : List Entry). is_at_end (state_after w.origin.state es)) saw.seen ∙ ap (λ (o : Origin). is_at_end (state_after o.state told.history)) saw.origin
 
-ends_by : (actor : ℕ) (r : Round) (w : View) (told next : Told) → Saw w told → FollowsScripts w.origin.scripts w.seen → Served actor told next r → EndsBy w r
+ends_by : (actor : ℕ) (r : Round) (w : View) (told next : ScriptedRun) → Saw w told → FollowsScripts w.origin.scripts w.seen → Served actor told next r → EndsBy w r
 ends_by actor round.Whole w told next saw follows served = record { follows = follows; ended = at_end w told saw ∙ served.1 }
 ends_by actor round.TooLong w told next saw follows served =
     (ap (λ (es : List Entry). length es) saw.seen ∙ served.1, λ (whole : IsWhole w.origin.state w.origin.scripts w.seen). absurd (cc (whole.ended, at_end w told saw, served.2)))
@@ -90,15 +90,15 @@ ends_by actor (round.Asks start) w told next saw follows served = tt
 ends_by actor round.Sleeps w told next saw follows served = tt
 ends_by actor round.NoMemory w told next saw follows served = tt
 
-pub ends_same : (actor : ℕ) (r : Round) (v u w : View) (tries last : ℕ) (told next : Told) → u ≡ entered (waited v tries last) told.history → w ≡ left u → v.origin ≡ told.origin
+pub ends_same : (actor : ℕ) (r : Round) (v u w : View) (tries last : ℕ) (told next : ScriptedRun) → u ≡ entered (waited v tries last) told.history → w ≡ left u → v.origin ≡ told.origin
     → next.history ≡ told.history → next.origin ≡ told.origin → FollowsScripts w.origin.scripts w.seen → Served actor told next r → EndsBy w r
 ends_same actor r v u w tries last told next in_is out_is from stays origin follows served =
     ends_by actor r w told next (saw_same v u w tries last told told in_is out_is from refl refl) follows served
 
 -- the value was given back with one entry more, which is the actor's own
 
-pub went_more : (actor : ℕ) (v u w : View) (tries last : ℕ) (told next : Told) → u ≡ entered (waited v tries last) told.history → w ≡ left (added u next.history) → v.origin ≡ told.origin
-    → IsPrefix v.seen told.history → AddsOwn actor told.history next.history → next.origin ≡ told.origin → Keeps next → WentOn actor v w
+pub went_more : (actor : ℕ) (v u w : View) (tries last : ℕ) (told next : ScriptedRun) → u ≡ entered (waited v tries last) told.history → w ≡ left (added u next.history) → v.origin ≡ told.origin
+    → IsPrefix v.seen told.history → AddsOwn actor told.history next.history → next.origin ≡ told.origin → IsSoFar next → WentOn actor v w
 went_more actor v u w tries last told next in_is out_is from begins adds origin keeps =
     let seen : w.seen ≡ next.history = ap (λ (x : View). x.seen) out_is in
     let place : length u.seen ≡ length told.history = ap (λ (x : View). length x.seen) in_is in
@@ -119,7 +119,7 @@ went_more actor v u w tries last told next in_is out_is from begins adds origin 
 
 -- whether a step was made
 
-pub step_adds_own : (actor : ℕ) (r : Round) (told next : Told) → is_step r ≡ true → Served actor told next r → AddsOwn actor told.history next.history
+pub step_adds_own : (actor : ℕ) (r : Round) (told next : ScriptedRun) → is_step r ≡ true → Served actor told next r → AddsOwn actor told.history next.history
 step_adds_own actor (round.Stepped answered) told next is served = served.0
 step_adds_own actor round.Whole told next is served = absurd (cc)
 step_adds_own actor round.TooLong told next is served = absurd (cc)
@@ -127,7 +127,7 @@ step_adds_own actor (round.Asks start) told next is served = absurd (cc)
 step_adds_own actor round.Sleeps told next is served = absurd (cc)
 step_adds_own actor round.NoMemory told next is served = absurd (cc)
 
-pub no_step_stays : (actor : ℕ) (r : Round) (told next : Told) → is_step r ≡ false → Served actor told next r → next.history ≡ told.history
+pub no_step_stays : (actor : ℕ) (r : Round) (told next : ScriptedRun) → is_step r ≡ false → Served actor told next r → next.history ≡ told.history
 no_step_stays actor (round.Stepped answered) told next is served = absurd (cc)
 no_step_stays actor round.Whole told next is served = served.0
 no_step_stays actor round.TooLong told next is served = served.0
@@ -165,18 +165,18 @@ went_on actor other u v w same one more = went_further actor u v w one (subst (�
 
 -- what the workers have left
 
-run_is : (told : Told) (log : Log) → log.origin.state ≡ told.origin.state → log.journal.entries ≡ told.history → Keeps told → IsRun told.origin log
+run_is : (told : ScriptedRun) (log : Log) → log.origin.state ≡ told.origin.state → log.journal.entries ≡ told.history → IsSoFar told → IsRun told.origin log
 run_is told log state entries keeps = record {
   state_is = state;
   legal = subst (λ (es : List Entry). Legal told.origin.state es) (sym entries) keeps.legal;
   follows = subst (λ (es : List Entry). FollowsScripts told.origin.scripts es) (sym entries) keeps.follows;
 }
 
-state_is : (told : Told) (log : Log) → log.origin.state ≡ told.origin.state → log.journal.entries ≡ told.history → is_at_end (state_of log) ≡ is_at_end (state_told told)
+state_is : (told : ScriptedRun) (log : Log) → log.origin.state ≡ told.origin.state → log.journal.entries ≡ told.history → is_at_end (state_of log) ≡ is_at_end (state_told told)
 state_is told log state entries =
     ap (λ (es : List Entry). is_at_end (state_after log.origin.state es)) entries ∙ ap (λ (s : State). is_at_end (state_after s told.history)) state
 
-pub ran_to_end : (told : Told) (log : Log) → log.origin.state ≡ told.origin.state → log.journal.entries ≡ told.history → Keeps told → is_at_end (state_told told) ≡ true
+pub ran_to_end : (told : ScriptedRun) (log : Log) → log.origin.state ≡ told.origin.state → log.journal.entries ≡ told.history → IsSoFar told → is_at_end (state_told told) ≡ true
     → IsRunToEnd told.origin log
 ran_to_end told log state entries keeps over =
     let run : IsRun told.origin log = run_is told log state entries keeps in
@@ -185,7 +185,7 @@ ran_to_end told log state entries keeps over =
       whole = record { follows = run.follows; ended = ap (λ (es : List Entry). is_at_end (state_after told.origin.state es)) entries ∙ over };
     }
 
-pub ran_to_limit : (told : Told) (log : Log) → log.origin.state ≡ told.origin.state → log.journal.entries ≡ told.history → Keeps told → is_at_end (state_told told) ≡ false
+pub ran_to_limit : (told : ScriptedRun) (log : Log) → log.origin.state ≡ told.origin.state → log.journal.entries ≡ told.history → IsSoFar told → is_at_end (state_told told) ≡ false
     → history_limit ≤ length told.history → IsRunToLimit told.origin log
 ran_to_limit told log state entries keeps goes_on full = record {
   run = run_is told log state entries keeps;

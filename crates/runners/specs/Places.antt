@@ -60,16 +60,16 @@ pending false = 0
 
 -- the place of an actor with this script after the entries: it stands where its answers by its start took it, one
 -- call more than answers where it waits, and no later start made a call
-pub record Fits (number : ℕ) (script : List Command) (entries : List Entry) (place : Place) : Type 0 where
+pub record PlaceFits (number : ℕ) (script : List Command) (entries : List Entry) (place : Place) : Type 0 where
   pub script_is : place.actor.script ≡ script
   pub stand_is : place.actor.stand ≡ stand_on script script_begin (answers_in number place.actor.start entries)
   pub count : length (calls_in number place.actor.start entries) ≡ length (answers_in number place.actor.start entries) + pending place.waits
   pub later : (start : ℕ) → place.actor.start < start → (calls_in number start entries ≡ []) × (answers_in number start entries ≡ [])
   pub in_script : (start : ℕ) → InScript script (calls_in number start entries) (answers_in number start entries)
 
-abbrev pub Kept : List (List Command) → List Place → List Entry → Type 0
-Kept scripts places entries = (number : ℕ) (script : List Command) → slice_get scripts number ≡ Some script
-    → (place : Place) × (slice_get places number ≡ Some place) × Fits number script entries place
+abbrev pub PlacesFit : List (List Command) → List Place → List Entry → Type 0
+PlacesFit scripts places entries = (number : ℕ) (script : List Command) → slice_get scripts number ≡ Some script
+    → (place : Place) × (slice_get places number ≡ Some place) × PlaceFits number script entries place
 
 -- the actor ran by this start at some time of the history, or it is the first
 abbrev pub HasRun : State → List Entry → ℕ → ℕ → Type 0
@@ -87,7 +87,7 @@ most_actors = 136
 -- each actor has a place that fits, each script an actor, and the log is of a new kernel, from the opening state of a scene, and no longer
 -- than a run
 pub record Sound (scripts : List (List Command)) (places : List Place) (log : Log) : Type 0 where
-  pub kept : Kept scripts places log.journal.entries
+  pub kept : PlacesFit scripts places log.journal.entries
   pub ran : AllRan places log.origin.state log.journal.entries
   pub opened : (scene : SceneValue) × (log.origin.state ≡ opening scene)
   pub many : length places ≡ length scripts

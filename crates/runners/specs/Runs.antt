@@ -27,15 +27,15 @@ use Rattle.runners.specs.declared.steps.Taken.{Taken}
 use Rattle.runners.specs.declared.steps.Taken.TheVariants.{Stepped, Unlawful}
 
 -- what a kernel with its actors' scripts stands for
-pub record Told : Type 0 where
+pub record ScriptedRun : Type 0 where
   pub origin : Origin
   pub history : List Entry
 
 -- the history of the log, in which actors follow these scripts
-abbrev pub told_of : List (List Command) → Log → Told
+abbrev pub told_of : List (List Command) → Log → ScriptedRun
 told_of scripts log = record { origin = record { state = log.origin.state; scripts = scripts; made = 0 }; history = log.journal.entries }
 
-abbrev pub state_told : Told → State
+abbrev pub state_told : ScriptedRun → State
 state_told told = state_after told.origin.state told.history
 
 -- the start by which an actor with this status runs
@@ -43,11 +43,11 @@ abbrev pub start_running : Option ActorStatus → Option ℕ
 start_running (Some (status.Running start)) = Some start
 start_running other = None
 
-abbrev pub run_told : Told → Run
+abbrev pub run_told : ScriptedRun → Run
 run_told told = record { state = state_told told; entries = told.history }
 
 -- the run is one turn longer; or the turn's event is not lawful, and all stands
-abbrev pub TookTurn : Turn → Told → Told → Taken → Type 0
+abbrev pub TookTurn : Turn → ScriptedRun → ScriptedRun → Taken → Type 0
 TookTurn turn told next Stepped = run_turn step told.origin.scripts (run_told told) turn ≡ Some (run_told next)
 TookTurn turn told next Unlawful = (run_turn step told.origin.scripts (run_told told) turn ≡ None) × (next.history ≡ told.history)
 
@@ -107,13 +107,13 @@ IsReplayRefused scene (replay_refused.Turn k) = replay_of scene ≡ refused k
 IsReplayRefused scene replay_refused.NoMemory = ⊤
 
 -- the run went on by its serial turns, to its end or to as many entries as a run may have
-pub record RanSerially (told next : Told) : Type 0 where
+pub record RanSerially (told next : ScriptedRun) : Type 0 where
   pub origin_is : next.origin ≡ told.origin
   pub run_is : run_from step told.origin.scripts 0 (run_told told) (serial_from step told.origin.scripts history_limit None (run_told told)) ≡ ran (run_told next)
   pub full : is_at_end (state_told next) ≡ false → length next.history ≡ history_limit
 
 -- the run went on by its serial turns to one that is due and is not lawful
-pub record StoodStill (told next : Told) : Type 0 where
+pub record StoodStill (told next : ScriptedRun) : Type 0 where
   pub origin_is : next.origin ≡ told.origin
   pub run_is : run_from step told.origin.scripts 0 (run_told told) (serial_from step told.origin.scripts history_limit None (run_told told)) ≡ ran (run_told next)
   pub last : Option ℕ
@@ -121,7 +121,7 @@ pub record StoodStill (told next : Told) : Type 0 where
   pub due_is : next_turn (state_told next) last ≡ Some due
   pub unlawful : run_turn step next.origin.scripts (run_told next) due ≡ None
 
-abbrev pub EndedSerially : Told → Told → SerialEnd → Type 0
+abbrev pub EndedSerially : ScriptedRun → ScriptedRun → SerialEnd → Type 0
 EndedSerially told next serial_end.Reached = RanSerially told next
 EndedSerially told next serial_end.Unlawful = StoodStill told next
 

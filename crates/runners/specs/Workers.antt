@@ -25,18 +25,18 @@ use Rattle.runners.specs.declared.workers.Attended.TheVariants as attended
 use Rattle.runners.specs.declared.workers.Worked.{Worked}
 use Rattle.runners.specs.declared.workers.Worked.TheVariants as worked
 use Rattle.runners.specs.Places.{is_answer_to}
-use Rattle.runners.specs.Runs.{Told, state_told}
+use Rattle.runners.specs.Runs.{ScriptedRun, state_told}
 
 -- the pass is one of the turnstile's, with its number, and does not hold the value
-abbrev pub Rests : Turnstile Told → Pass → Type 0
+abbrev pub Rests : Turnstile ScriptedRun → Pass → Type 0
 Rests turnstile pass = IsPassOf (λ told. told.origin) turnstile pass × ((view pass).has_turn ≡ false)
 
 -- the actor is one of those whose run the turnstile was made with
-abbrev pub IsActor : Turnstile Told → ℕ → Type 0
+abbrev pub IsActor : Turnstile ScriptedRun → ℕ → Type 0
 IsActor turnstile actor = actor < length (first_of turnstile).origin.scripts
 
 -- the worker has such a pass, and such an actor
-abbrev pub Serves : Turnstile Told → Worker → Type 0
+abbrev pub Serves : Turnstile ScriptedRun → Worker → Type 0
 Serves turnstile worker = Rests turnstile worker.pass × IsActor turnstile worker.progress.actor.0
 
 -- the event is a call of the actor, the end of its wait, or of no actor
@@ -69,7 +69,7 @@ pub record AddsOwn (actor : ℕ) (history longer : List Entry) : Type 0 where
   pub longer_is : longer ≡ history ++ entry ∷ []
 
 -- what one turn of the actor's worker makes of the run
-abbrev pub Served : ℕ → Told → Told → Round → Type 0
+abbrev pub Served : ℕ → ScriptedRun → ScriptedRun → Round → Type 0
 Served actor told next (round.Stepped answered) = (adds : AddsOwn actor told.history next.history) × (answered ≡ is_answer_to actor adds.entry)
 Served actor told next round.Whole = (next.history ≡ told.history) × (is_at_end (state_told told) ≡ true)
 Served actor told next round.TooLong = (next.history ≡ told.history) × (length told.history ≡ history_limit) × (is_at_end (state_told told) ≡ false)

@@ -10,7 +10,7 @@ ghost use Rattle.kernel_types.specs.Whole.{FollowsScripts};
 ghost use Rattle.kernel_types.specs.Turns.{history_limit, takes_turn};
 ghost use Rattle.kernel_log.specs.Logs.{Log};
 ghost use Rattle.runners.specs.Places.{is_answer_to, last_is_answer_to, most_actors};
-ghost use Rattle.runners.specs.Runs.{Told, TookTurn, state_told, start_running};
+ghost use Rattle.runners.specs.Runs.{ScriptedRun, TookTurn, state_told, start_running};
 
 use crate::answered::{answered, is_answer_to};
 use crate::bell::Bell;
@@ -37,10 +37,10 @@ pub struct Shared<K: IpcKernel + Drop> {
 }
 
 impl<K: IpcKernel + Drop> Model for Shared<K> {
-    ghost use Rattle.runners.specs.Runs.{Told, told_of};
+    ghost use Rattle.runners.specs.Runs.{ScriptedRun, told_of};
     ghost use Rattle.runners.specs.Places.{Sound};
 
-    ghost Value = { Told };
+    ghost Value = { ScriptedRun };
 
     ghost view = { λ s. told_of s.scripts s.logged };
 

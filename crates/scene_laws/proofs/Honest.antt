@@ -3,7 +3,8 @@ use Rattle.std.proofs.Common.{◌≡◌, ℕ, zero, suc, ◌+◌, ◌&&◌, Bool
 use Rattle.std.specs.Prelude.{IfOk, nat_lt}
 use Rattle.std.specs.List.{list_all}
 use Rattle.std.proofs.lemmas.List.Folds.{list_all-append}
-use Rattle.kernel_types.specs.Carried.{is_honest_call, is_honest}
+use Rattle.kernel_types.specs.Carried.{is_honest}
+use Rattle.kernel_values.specs.CallKinds.{is_honest_call}
 use Rattle.kernel_values.specs.SceneLaw.{SceneValue}
 use Rattle.kernel_values.specs.Commands.{has_lawful_registers, payload_of}
 use Rattle.kernel_values.specs.Words.{is_name}

@@ -32,7 +32,7 @@ use Rattle.script_lines.specs.Calls.{is_thread_line}
 use Rattle.script_lines.specs.ClientCalls.{is_client_line}
 use Rattle.script_lines.specs.Texts.{after_two_words}
 use Rattle.scene_lines.specs.Reading.{is_within, with_used, after_command, with_command, with_client_command, extended, next_thread, after_repeat, closed, client_closed, repeated, app_of, apps_with, client_of, clients_with, is_named, with_ports, with_app, new_app, most_apps, described_app, manifest_act, with_client, new_client, most_clients}
-use Rattle.scene_lines.specs.Lawful.{Keeps, IsCounted, IsLawful}
+use Rattle.scene_lines.specs.Lawful.{KeepsCount, IsCounted, IsLawful}
 use Rattle.script_lines.proofs.Bytes.{and_true}
 use Rattle.scene_lines.proofs.Keeping.{AppFacts, facts_of, from_facts, change_last, change_client, add_app, add_client, size_told, repeated_all, repeated_length, repeated_payload}
 
@@ -82,10 +82,10 @@ grown_app app names more h l =
       ports = f.ports;
     })
 
-last_lawful : (xs : List App) (app : App) (clients : List Client) (noted : Noted) (used : Used) → Keeps (xs ++ app ∷ []) clients noted used → is_lawful_app app ≡ true
+last_lawful : (xs : List App) (app : App) (clients : List Client) (noted : Noted) (used : Used) → KeepsCount (xs ++ app ∷ []) clients noted used → is_lawful_app app ≡ true
 last_lawful xs app clients noted used h = (and_true (is_lawful_app app) true (and_true (list_all is_lawful_app xs) (list_all is_lawful_app (app ∷ [])) (sym (list_all-append is_lawful_app xs (app ∷ [])) ∙ h.lawful)).1).0
 
-grown : (before : Registered) (app : OpenApp) (used : Used) (names : List (List ℕ)) (more : List Command) (k p : ℕ) → Keeps (before.apps ++ app_of app ∷ []) before.clients before.noted used → list_all is_lawful_thread_command more ≡ true → length more ≡ k → payload_of_script more ≡ p
+grown : (before : Registered) (app : OpenApp) (used : Used) (names : List (List ℕ)) (more : List Command) (k p : ℕ) → KeepsCount (before.apps ++ app_of app ∷ []) before.clients before.noted used → list_all is_lawful_thread_command more ≡ true → length more ≡ k → payload_of_script more ≡ p
     → is_within (with_used used k p) ≡ true → IsLawful before (place.App (record app { names = names; script = app.script ++ more })) (with_used used k p)
 grown before app used names more k p h l count load within = record {
   keeps = change_last before.apps (app_of app) (app_of (record app { names = names; script = app.script ++ more })) before.clients before.noted used (with_used used k p) k p h refl refl
@@ -96,7 +96,7 @@ grown before app used names more k p h l count load within = record {
   body = tt;
 }
 
-last_client_lawful : (apps : List App) (xs : List Client) (client : Client) (noted : Noted) (used : Used) → Keeps apps (xs ++ client ∷ []) noted used → is_lawful_client client ≡ true
+last_client_lawful : (apps : List App) (xs : List Client) (client : Client) (noted : Noted) (used : Used) → KeepsCount apps (xs ++ client ∷ []) noted used → is_lawful_client client ≡ true
 last_client_lawful apps xs client noted used h = (and_true (is_lawful_client client) true (and_true (list_all is_lawful_client xs) (list_all is_lawful_client (client ∷ [])) (sym (list_all-append is_lawful_client xs (client ∷ [])) ∙ h.lawful_clients)).1).0
 
 longer_client : (client : Client) (more : List Command) → is_lawful_client client ≡ true → list_all is_lawful_client_command more ≡ true → is_lawful_client (record client { script = client.script ++ more }) ≡ true
@@ -105,7 +105,7 @@ longer_client client more h l =
     let longer : list_all is_lawful_client_command (client.script ++ more) ≡ true = list_all-append is_lawful_client_command client.script more ∙ rw (f.1, l) refl in
     rw (f.0, longer) refl
 
-grown_client : (before : Registered) (client : OpenClient) (used : Used) (names : List (List ℕ)) (more : List Command) (k p : ℕ) → Keeps before.apps (before.clients ++ client_of client ∷ []) before.noted used → list_all is_lawful_client_command more ≡ true → length more ≡ k → payload_of_script more ≡ p
+grown_client : (before : Registered) (client : OpenClient) (used : Used) (names : List (List ℕ)) (more : List Command) (k p : ℕ) → KeepsCount before.apps (before.clients ++ client_of client ∷ []) before.noted used → list_all is_lawful_client_command more ≡ true → length more ≡ k → payload_of_script more ≡ p
     → is_within (with_used used k p) ≡ true → IsLawful before (place.Client (record client { names = names; script = client.script ++ more })) (with_used used k p)
 grown_client before client used names more k p h l count load within = record {
   keeps = change_client before.apps before.clients (client_of client) (record (client_of client) { script = client.script ++ more }) before.noted used (with_used used k p) k p h refl
@@ -125,7 +125,7 @@ counted used command more e =
     let g = guard_ok (has_lawful_registers command && is_within after) TooMany after more e in
     ((and_true (has_lawful_registers command) (is_within after) g.0).1, g.1)
 
-pub command_kept : (before : Registered) (used : Used) (app : OpenApp) (command : Command) (next : Used × Place) → with_command used app command ≡ Ok next → Keeps (before.apps ++ app_of app ∷ []) before.clients before.noted used → is_thread_line command.call ≡ true
+pub command_kept : (before : Registered) (used : Used) (app : OpenApp) (command : Command) (next : Used × Place) → with_command used app command ≡ Ok next → KeepsCount (before.apps ++ app_of app ∷ []) before.clients before.noted used → is_thread_line command.call ≡ true
     → IsLawful before next.1 next.0
 unfolding with_command
 command_kept before used app command next e h l =
@@ -135,7 +135,7 @@ command_kept before used app command next e h l =
     let c = counted used command b.0 b.1 in
     subst (λ n. IsLawful before n.1 n.0) b.2 (subst (λ more. IsLawful before longer more) c.1 (grown before app used app.names (command ∷ []) 1 (payload_of command.call) h (rw l refl) refl (omega arith) c.0))
 
-pub client_command_kept : (before : Registered) (used : Used) (client : OpenClient) (command : Command) (next : Used × Place) → with_client_command used client command ≡ Ok next → Keeps before.apps (before.clients ++ client_of client ∷ []) before.noted used → is_client_line command.call ≡ true
+pub client_command_kept : (before : Registered) (used : Used) (client : OpenClient) (command : Command) (next : Used × Place) → with_client_command used client command ≡ Ok next → KeepsCount before.apps (before.clients ++ client_of client ∷ []) before.noted used → is_client_line command.call ≡ true
     → IsLawful before next.1 next.0
 unfolding with_client_command
 client_command_kept before used client command next e h l =

@@ -22,7 +22,7 @@ use Rattle.scene_lines.specs.declared.reading.Noted.{Noted}
 use Rattle.scene_lines.specs.declared.reading.Used.{Used}
 use Rattle.scene_lines.specs.Reading.{is_within, with_used, is_taken, is_named, with_ports, repeated, most_apps, most_clients, queue_of}
 use Rattle.script_lines.proofs.Bytes.{and_true}
-use Rattle.scene_lines.specs.Lawful.{scripts_in, client_scripts, paths_in, Keeps}
+use Rattle.scene_lines.specs.Lawful.{scripts_in, client_scripts, paths_in, KeepsCount}
 
 pub or_false : (a b : Bool) → (a || b) ≡ false → (a ≡ false) × (b ≡ false)
 or_false false b h = (refl, h)
@@ -77,8 +77,8 @@ sum_changed f g xs a b k e = omega (arith, sum_last f g xs b, sum_last f g xs a,
 mapped_last : {A B : Type 0} (f : A → B) (g : B → ℕ) (xs : List A) (b : A) → sum_by g (map f (xs ++ b ∷ [])) ≡ sum_by g (map f xs) + g (f b)
 mapped_last f g xs b = omega (arith, ap (sum_by g) (map_push f xs b), sum_by-append g (map f xs) (f b ∷ []))
 
-pub change_last : (xs : List App) (a b : App) (clients : List Client) (noted : Noted) (used after : Used) (k p : ℕ) → Keeps (xs ++ a ∷ []) clients noted used → b.name ≡ a.name → b.manifest ≡ a.manifest → is_lawful_app b ≡ true
-    → sum_by length b.threads ≡ sum_by length a.threads + k → sum_by payload_of_script b.threads ≡ sum_by payload_of_script a.threads + p → after.commands ≡ used.commands + k → after.payload ≡ used.payload + p → is_within after ≡ true → Keeps (xs ++ b ∷ []) clients noted after
+pub change_last : (xs : List App) (a b : App) (clients : List Client) (noted : Noted) (used after : Used) (k p : ℕ) → KeepsCount (xs ++ a ∷ []) clients noted used → b.name ≡ a.name → b.manifest ≡ a.manifest → is_lawful_app b ≡ true
+    → sum_by length b.threads ≡ sum_by length a.threads + k → sum_by payload_of_script b.threads ≡ sum_by payload_of_script a.threads + p → after.commands ≡ used.commands + k → after.payload ≡ used.payload + p → is_within after ≡ true → KeepsCount (xs ++ b ∷ []) clients noted after
 change_last xs a b clients noted used after k p h name manifest lawful commands payload counted loaded within =
     let l = and_true (list_all is_lawful_app xs) (list_all is_lawful_app (a ∷ [])) (sym (list_all-append is_lawful_app xs (a ∷ [])) ∙ h.lawful) in
     record {
@@ -97,8 +97,8 @@ change_last xs a b clients noted used after k p h name manifest lawful commands 
       within = within;
     }
 
-pub change_client : (apps : List App) (xs : List Client) (a b : Client) (noted : Noted) (used after : Used) (k p : ℕ) → Keeps apps (xs ++ a ∷ []) noted used → b.name ≡ a.name → is_lawful_client b ≡ true
-    → length b.script ≡ length a.script + k → payload_of_script b.script ≡ payload_of_script a.script + p → after.commands ≡ used.commands + k → after.payload ≡ used.payload + p → is_within after ≡ true → Keeps apps (xs ++ b ∷ []) noted after
+pub change_client : (apps : List App) (xs : List Client) (a b : Client) (noted : Noted) (used after : Used) (k p : ℕ) → KeepsCount apps (xs ++ a ∷ []) noted used → b.name ≡ a.name → is_lawful_client b ≡ true
+    → length b.script ≡ length a.script + k → payload_of_script b.script ≡ payload_of_script a.script + p → after.commands ≡ used.commands + k → after.payload ≡ used.payload + p → is_within after ≡ true → KeepsCount apps (xs ++ b ∷ []) noted after
 change_client apps xs a b noted used after k p h name lawful commands payload counted loaded within =
     let l = and_true (list_all is_lawful_client xs) (list_all is_lawful_client (a ∷ [])) (sym (list_all-append is_lawful_client xs (a ∷ [])) ∙ h.lawful_clients) in
     record {
@@ -171,8 +171,8 @@ with_ports_is paths (port ∷ ports) after h e =
     let more = with_ports_is (paths ++ port.path ∷ []) ports after (distinct_push paths port.path h g.0) g.1 in
     (more.0 ∙ append_assoc paths (port.path ∷ []) (map (λ port. port.path) ports), more.1)
 
-pub add_app : (xs : List App) (b : App) (clients : List Client) (noted : Noted) (after : List (List ℕ)) (used : Used) → Keeps xs clients noted used → is_lawful_app b ≡ true → is_named noted b.name ≡ false → length noted.names < most_apps
-    → with_ports noted.ports b.manifest.ports ≡ Ok after → sum_by length b.threads ≡ 0 → sum_by payload_of_script b.threads ≡ 0 → Keeps (xs ++ b ∷ []) clients (record noted { names = noted.names ++ b.name ∷ []; ports = after }) used
+pub add_app : (xs : List App) (b : App) (clients : List Client) (noted : Noted) (after : List (List ℕ)) (used : Used) → KeepsCount xs clients noted used → is_lawful_app b ≡ true → is_named noted b.name ≡ false → length noted.names < most_apps
+    → with_ports noted.ports b.manifest.ports ≡ Ok after → sum_by length b.threads ≡ 0 → sum_by payload_of_script b.threads ≡ 0 → KeepsCount (xs ++ b ∷ []) clients (record noted { names = noted.names ++ b.name ∷ []; ports = after }) used
 add_app xs b clients noted after used h lawful free few published commands payload =
     let w = with_ports_is noted.ports b.manifest.ports after h.distinct_ports published in
     let o = or_false (is_taken noted.names b.name) (is_taken noted.client_names b.name) free in
@@ -192,8 +192,8 @@ add_app xs b clients noted after used h lawful free few published commands paylo
       within = h.within;
     }
 
-pub add_client : (apps : List App) (xs : List Client) (b : Client) (noted : Noted) (used : Used) → Keeps apps xs noted used → is_lawful_client b ≡ true → is_named noted b.name ≡ false → length noted.client_names < most_clients
-    → length b.script ≡ 0 → payload_of_script b.script ≡ 0 → Keeps apps (xs ++ b ∷ []) (record noted { client_names = noted.client_names ++ b.name ∷ [] }) used
+pub add_client : (apps : List App) (xs : List Client) (b : Client) (noted : Noted) (used : Used) → KeepsCount apps xs noted used → is_lawful_client b ≡ true → is_named noted b.name ≡ false → length noted.client_names < most_clients
+    → length b.script ≡ 0 → payload_of_script b.script ≡ 0 → KeepsCount apps (xs ++ b ∷ []) (record noted { client_names = noted.client_names ++ b.name ∷ [] }) used
 add_client apps xs b noted used h lawful free few commands payload =
     let o = or_false (is_taken noted.names b.name) (is_taken noted.client_names b.name) free in
     record {
@@ -212,7 +212,7 @@ add_client apps xs b noted used h lawful free few commands payload =
       within = h.within;
     }
 
-pub size_told : (apps : List App) (clients : List Client) (noted : Noted) (used : Used) (size : ℕ) → Keeps apps clients noted used → is_queue_size size ≡ true → Keeps apps clients (record noted { queue = Some size }) used
+pub size_told : (apps : List App) (clients : List Client) (noted : Noted) (used : Used) (size : ℕ) → KeepsCount apps clients noted used → is_queue_size size ≡ true → KeepsCount apps clients (record noted { queue = Some size }) used
 size_told apps clients noted used size h lawful = record {
   lawful = h.lawful;
   lawful_clients = h.lawful_clients;
@@ -252,7 +252,7 @@ repeated_payload (suc times) body = omega (arith, sum_by-append (λ command. pay
 
 -- ---- the end
 
-pub scene_kept : (apps : List App) (clients : List Client) (noted : Noted) (used : Used) (turns : List Turn) → Keeps apps clients noted used → IsLawfulScene (record { apps = apps; clients = clients; queue = queue_of noted; turns = turns })
+pub scene_kept : (apps : List App) (clients : List Client) (noted : Noted) (used : Used) (turns : List Turn) → KeepsCount apps clients noted used → IsLawfulScene (record { apps = apps; clients = clients; queue = queue_of noted; turns = turns })
 scene_kept apps clients noted used turns h =
     let within = and_true (nat_le used.commands 16384) (nat_le used.payload 16777216) h.within in
     record {

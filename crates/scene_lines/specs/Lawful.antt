@@ -25,7 +25,7 @@ abbrev pub paths_in : List App → List (List ℕ)
 paths_in apps = flat_map (λ app. map (λ port. port.path) app.manifest.ports) apps
 
 -- the applications and clients keep all limits, and what was noted of them is what they have
-pub record Keeps (apps : List App) (clients : List Client) (noted : Noted) (used : Used) : Type 0 where
+pub record KeepsCount (apps : List App) (clients : List Client) (noted : Noted) (used : Used) : Type 0 where
   pub lawful : IsTrue (list_all is_lawful_app apps)
   pub lawful_clients : IsTrue (list_all is_lawful_client clients)
   pub named : map (λ app. app.name) apps ≡ noted.names
@@ -51,7 +51,7 @@ IsLawfulBody (place.ClientRepeat client repeat) = IsCounted is_lawful_client_com
 IsLawfulBody other = Unit {0}
 
 pub record IsLawful (before : Registered) (last : Place) (used : Used) : Type 0 where
-  pub keeps : Keeps (apps_with before.apps last) (clients_with before.clients last) before.noted used
+  pub keeps : KeepsCount (apps_with before.apps last) (clients_with before.clients last) before.noted used
   pub body : IsLawfulBody last
 
 abbrev pub IsLawfulReading : Reading → Type 0

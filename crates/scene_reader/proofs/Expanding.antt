@@ -12,7 +12,7 @@ use Rattle.script_lines.specs.declared.words.ScriptWord.TheVariants as script
 use Rattle.script_lines.specs.Calls.{command_line}
 use Rattle.script_lines.specs.ClientCalls.{client_command_line}
 use Rattle.scene_lines.specs.Reading.{repeated}
-use Rattle.scene_reader.specs.SceneText.{Line, is_repeat, is_end, is_turns, in_repeat, after_turns, standing_with, standing, Standing, copies, times_of, expanded_from, expanded, Given, on_last, with_command, with_client_command, with_line, given_by, given}
+use Rattle.scene_reader.specs.SceneText.{Line, is_repeat, is_end, is_turns, in_repeat, after_turns, standing_with, standing, OpenPart, copies, times_of, expanded_from, expanded, Given, on_last, with_command, with_client_command, with_line, given_by, given}
 use Rattle.scene_reader.proofs.Stable.{Begins, again_read, again_read_client, names_grow, client_names_grow}
 
 -- ---- the last of a list
@@ -70,7 +70,7 @@ pub record Calls (word : Option LineWord) : Type 0 where
   pub no_end : is_end word ≡ false
   pub no_repeat : is_repeat word ≡ false
   pub no_turns : is_turns word ≡ false
-  pub stands : (before : Standing) → standing_with word before ≡ before
+  pub stands : (before : OpenPart) → standing_with word before ≡ before
 
 -- it begins and ends nothing, and gives its command
 pub calls_of : (of_thread : Bool) (word : Option LineWord) (names words : List (List ℕ)) (read : List (List ℕ) × Command) → command_of of_thread word names words ≡ Ok read → Calls word

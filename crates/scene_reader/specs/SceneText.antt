@@ -66,19 +66,19 @@ unfoldable pub after_turns : List Line → Bool
 after_turns above = list_any (λ line. is_turns line.word) above
 
 -- the nearest `app`, `thread` or `client`
-pub data Standing : Type 0 where
-  in_none : Standing
-  in_app : Standing
-  in_thread : Standing
-  in_client : Standing
+pub data OpenPart : Type 0 where
+  in_none : OpenPart
+  in_app : OpenPart
+  in_thread : OpenPart
+  in_client : OpenPart
 
-abbrev pub standing_with : Option LineWord → Standing → Standing
+abbrev pub standing_with : Option LineWord → OpenPart → OpenPart
 standing_with (Some (of.Part part.App)) before = in_app
 standing_with (Some (of.Part part.Client)) before = in_client
 standing_with (Some (of.Script script.Thread)) before = in_thread
 standing_with other before = before
 
-unfoldable pub standing : List Line → Standing
+unfoldable pub standing : List Line → OpenPart
 standing [] = in_none
 standing (line ∷ above) = standing_with line.word (standing above)
 
@@ -184,21 +184,21 @@ abbrev pub is_empty : {A : Type 0} → List A → Bool
 is_empty [] = true
 is_empty (x ∷ xs) = false
 
-abbrev pub is_of_app : Standing → Bool
+abbrev pub is_of_app : OpenPart → Bool
 is_of_app in_app = true
 is_of_app in_thread = true
 is_of_app other = false
 
-abbrev pub is_of_script : Standing → Bool
+abbrev pub is_of_script : OpenPart → Bool
 is_of_script in_thread = true
 is_of_script in_client = true
 is_of_script other = false
 
-abbrev pub is_of_thread : Standing → Bool
+abbrev pub is_of_thread : OpenPart → Bool
 is_of_thread in_thread = true
 is_of_thread other = false
 
-abbrev pub is_of_client : Standing → Bool
+abbrev pub is_of_client : OpenPart → Bool
 is_of_client in_client = true
 is_of_client other = false
 

@@ -1,6 +1,7 @@
 -- The lines of a thread's script: what each of them calls.
 use Rattle.std.specs.Prelude.{ℕ, Bool, ◌&&◌, List, [], ◌∷◌, length, nat_le, Result, Ok, Err, if◌then◌else◌}
-use Rattle.kernel_values.specs.Commands.{is_thread_call, can_be_spelled}
+use Rattle.kernel_values.specs.Commands.{can_be_spelled}
+use Rattle.kernel_values.specs.CallKinds.{is_thread_call}
 use Rattle.kernel_values.specs.declared.call.Call.{Call}
 use Rattle.kernel_values.specs.declared.call.Call.TheVariants as call
 use Rattle.kernel_values.specs.declared.flags.Events.{Events}

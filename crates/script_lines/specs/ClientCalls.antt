@@ -1,6 +1,7 @@
 -- The lines of a client's script: what each of them calls.
 use Rattle.std.specs.Prelude.{ℕ, Bool, ◌&&◌, List, [], ◌∷◌, Result, Ok, Err}
-use Rattle.kernel_values.specs.Commands.{is_client_call, can_be_spelled}
+use Rattle.kernel_values.specs.Commands.{can_be_spelled}
+use Rattle.kernel_values.specs.CallKinds.{is_client_call}
 use Rattle.kernel_values.specs.declared.call.Call.{Call}
 use Rattle.kernel_values.specs.declared.call.Call.TheVariants as call
 use Rattle.kernel_values.specs.declared.script.Command.{Command}

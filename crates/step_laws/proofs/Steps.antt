@@ -34,7 +34,7 @@ use Rattle.kernel_types.specs.Messages.{deliver, free_id, get_message, peer_end,
 use Rattle.kernel_types.specs.Objects.{end_of}
 use Rattle.kernel_types.specs.Outcome.{Outcome, no_seqs}
 use Rattle.kernel_types.specs.Ports.{admits}
-use Rattle.kernel_types.specs.Step.{Stepped, beside_core, client_begin, client_number, client_resume, device_stepped, full_step, idle, idle_lawful, in_world, is_built_event, is_thread, next_deadline, step}
+use Rattle.kernel_types.specs.Step.{Stepped, beside_core, client_begin, client_number, client_resume, device_stepped, step, idle, idle_lawful, in_world, is_thread, next_deadline}
 use Rattle.kernel_types.specs.Sweep.{sweep}
 use Rattle.kernel_types.specs.Threads.{running_activity, with_activity}
 use Rattle.kernel_types.specs.Waits.{end_of_wait}
@@ -293,21 +293,17 @@ walks_if : (asked : Option Call) (c : CoreState) (b : Bool) (one other : Option 
 walks_if asked c true one other p q = p
 walks_if asked c false one other p q = q
 
-full_step_walks : (s : State) (ev : Event) → StepWalks (asked_by ev) s.core (full_step s ev)
-unfolding full_step
-full_step_walks s (event.Begin actor start asked) =
-    walks_if (Some asked) s.core (is_thread s actor.0) _ _ (in_world_walks (Some asked) s.core s.world (core_begin s.core actor.0 start asked) (begin_walks s.core actor.0 start asked))
-    (beside_walks (Some asked) s.core (client_begin s (client_number s actor.0) start asked))
-full_step_walks s (event.Resume actor start) =
-    walks_if None s.core (is_thread s actor.0) _ _ (in_world_walks None s.core s.world (core_resume s.core actor.0 start) (resume_walks s.core actor.0 start))
-    (beside_walks None s.core (client_resume s (client_number s actor.0) start))
-full_step_walks s event.Device = device_walks s (device_step s) (device_keeps s (of_device s.core))
-full_step_walks s event.Idle = walks_if None s.core (idle_lawful s) (Some (idle s)) None (idled_walks s.core (next_deadline s)) tt
-
 -- every step's change of the core is a row of changes
 pub step_walks : (s : State) (ev : Event) → StepWalks (asked_by ev) s.core (step s ev)
 unfolding step
-step_walks s ev = walks_if (asked_by ev) s.core (is_built_event ev) (full_step s ev) None (full_step_walks s ev) tt
+step_walks s (event.Begin actor start asked) =
+    walks_if (Some asked) s.core (is_thread s actor.0) _ _ (in_world_walks (Some asked) s.core s.world (core_begin s.core actor.0 start asked) (begin_walks s.core actor.0 start asked))
+    (beside_walks (Some asked) s.core (client_begin s (client_number s actor.0) start asked))
+step_walks s (event.Resume actor start) =
+    walks_if None s.core (is_thread s actor.0) _ _ (in_world_walks None s.core s.world (core_resume s.core actor.0 start) (resume_walks s.core actor.0 start))
+    (beside_walks None s.core (client_resume s (client_number s actor.0) start))
+step_walks s event.Device = device_walks s (device_step s) (device_keeps s (of_device s.core))
+step_walks s event.Idle = walks_if None s.core (idle_lawful s) (Some (idle s)) None (idled_walks s.core (next_deadline s)) tt
 
 walk_if : (asked : Option Call) (c : CoreState) (o : Option Stepped) (r : Stepped) → o ≡ Some r → StepWalks asked c o → IsWalk asked c r.seqs r.state.core
 walk_if asked c None r is walks = absurd (cc)

@@ -20,7 +20,7 @@ use Rattle.report_text.specs.declared.form.Form.{Form}
 use Rattle.runners.specs.Runs.{Carries, IsRunToEnd, IsRunToLimit, origin_of}
 use Rattle.scene_reader.specs.Whole.{scene_of}
 use Rattle.script_lines.specs.declared.fault.SceneFault.{SceneFault}
-use Rattle.trusty_main.specs.Answers.{HasScene, IsEndless, IsReportOf, ReportsRun, Tells, Told}
+use Rattle.trusty_main.specs.Answers.{HasScene, IsEndless, IsReportOf, ReportsRun, Tells, TellsWhole}
 use Rattle.trusty_main.specs.Commanded.{AppendsSomeOf, GetsDueOf, HasCommand, IsDue, IsDueOfCheck, IsDueOfScene, IsDueOfThreads, IsReported, AppendsFrontOf, TellsSome, ToldOf, form_of, scene_text}
 use Rattle.trusty_main.specs.Due.{Due, due_of_run}
 use Rattle.trusty_main.specs.Plans.{command_by, outturn_of, plain_of, plan_of}
@@ -202,7 +202,7 @@ report_if : (ended : Bool) (d e : Due) (old new : Option (List ℕ)) → IsTrue 
 report_if true d e old new is appended = appended
 report_if false d e old new is appended = absurd (cc)
 
-whole_reported : (plan : Plan) (scene : SceneValue) (old new : Option (List ℕ)) → Told (due_of_run scene plan.form (outturn_of plan.order scene)) status.Done old new
+whole_reported : (plan : Plan) (scene : SceneValue) (old new : Option (List ℕ)) → TellsWhole (due_of_run scene plan.form (outturn_of plan.order scene)) status.Done old new
     → ReportsRun plan.order plan.form scene old new → IsReported plan.form scene old new
 whole_reported plan scene old new told reports = record {
   entries = reports.whole.run.entries;
@@ -217,12 +217,12 @@ abbrev pub RunReported : Plan → List ℕ → (old new : Option (List ℕ)) →
 RunReported plan input old new = HasScene (scene_of input) (λ scene. ReportsRun plan.order plan.form scene old new)
 
 done_read : (order : Order) (form : Form) (input : List ℕ) (read : Result SceneValue SceneFault) (due : Due) (old new : Option (List ℕ))
-    → IsDueOfScene (command_by order form) input read due → Told due status.Done old new → HasScene read (λ scene. ReportsRun order form scene old new)
+    → IsDueOfScene (command_by order form) input read due → TellsWhole due status.Done old new → HasScene read (λ scene. ReportsRun order form scene old new)
     → HasScene read (λ scene. IsReported form scene old new)
 done_read order.Serial form input (Ok scene) due old new is told reports =
-    whole_reported (record { order = order.Serial; form = form }) scene old new (subst (λ d. Told d status.Done old new) is told) reports
+    whole_reported (record { order = order.Serial; form = form }) scene old new (subst (λ d. TellsWhole d status.Done old new) is told) reports
 done_read order.Replay form input (Ok scene) due old new is told reports =
-    whole_reported (record { order = order.Replay; form = form }) scene old new (subst (λ d. Told d status.Done old new) is told) reports
+    whole_reported (record { order = order.Replay; form = form }) scene old new (subst (λ d. TellsWhole d status.Done old new) is told) reports
 done_read order form input (Err fault) due old new is told reports = absurd reports
 
 done_serial : (form : Form) (input : List ℕ) (old new : Option (List ℕ)) → ToldOf (command.Serial form) input status.Done old new

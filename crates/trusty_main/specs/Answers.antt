@@ -95,17 +95,17 @@ pub record IsRefused (order : Order) (scene : SceneValue) : Type 0 where
   pub refused_is : outturn_of order scene ≡ refused turn
 
 -- the status is the one that is due, and the whole text was appended
-pub record Told (due : Due) (told : Status) (old new : Option (List ℕ)) : Type 0 where
+pub record TellsWhole (due : Due) (told : Status) (old new : Option (List ℕ)) : Type 0 where
   pub status_is : due.status ≡ told
   pub appended : Appends old new due.text
 
 -- What came of telling what is due. Where a write failed or memory was wanted, a front of it was appended, but not all.
 pub record Tells (due : Due) (old new : Option (List ℕ)) (before now : ℕ) (result : Status) : Type 0 where
-  pub done : result ≡ status.Done → Told due status.Done old new
-  pub input_refused : result ≡ status.InputRefused → Told due status.InputRefused old new
-  pub turn_refused : result ≡ status.TurnRefused → Told due status.TurnRefused old new
-  pub history_refused : result ≡ status.HistoryRefused → Told due status.HistoryRefused old new
-  pub run_too_long : result ≡ status.RunTooLong → Told due status.RunTooLong old new
+  pub done : result ≡ status.Done → TellsWhole due status.Done old new
+  pub input_refused : result ≡ status.InputRefused → TellsWhole due status.InputRefused old new
+  pub turn_refused : result ≡ status.TurnRefused → TellsWhole due status.TurnRefused old new
+  pub history_refused : result ≡ status.HistoryRefused → TellsWhole due status.HistoryRefused old new
+  pub run_too_long : result ≡ status.RunTooLong → TellsWhole due status.RunTooLong old new
   pub write_fault : result ≡ status.WriteFault → Rose before now × AppendsFront old new due.text
   pub no_memory : result ≡ status.NoMemory → AppendsFront old new due.text
   pub no_usage : result ≢ status.Usage

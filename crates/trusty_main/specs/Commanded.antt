@@ -19,7 +19,7 @@ use Rattle.report_text.specs.Forms.{report}
 use Rattle.report_text.specs.declared.form.Form.{Form}
 use Rattle.scene_reader.specs.Whole.{scene_of}
 use Rattle.script_lines.specs.declared.fault.SceneFault.{SceneFault}
-use Rattle.trusty_main.specs.Answers.{Crosses, IsReportOf, IsSequentialHistory, Tells, Told}
+use Rattle.trusty_main.specs.Answers.{Crosses, IsReportOf, IsSequentialHistory, Tells, TellsWhole}
 use Rattle.trusty_main.specs.Due.{Due, due_of_run, due_of_verdict}
 use Rattle.trusty_main.specs.Plans.{outturn_of}
 use Rattle.trusty_main.specs.Texts.{fault_text, too_long_text, usage_text}
@@ -68,7 +68,7 @@ IsDue command input due = IsDueOfScene command input (scene_of (scene_text comma
 pub record ToldOf (command : Command) (input : List ℕ) (result : Status) (old new : Option (List ℕ)) : Type 0 where
   pub due : Due
   pub is_due : IsDue command input due
-  pub told : Told due result old new
+  pub told : TellsWhole due result old new
 
 -- there is a command, and this holds of it
 abbrev pub HasCommand : Option Command → (Command → Type 0) → Type 0

@@ -13,7 +13,7 @@ use Rattle.kernel_values.specs.Origin.{Origin}
 use Rattle.turnstile.specs.declared.view.View.{View}
 use Rattle.turnstile.specs.Numbers.{times, once_below}
 use Rattle.turnstile.specs.Views.{numbers}
-use Rattle.turnstile.specs.Rule.{About, Turn, free, taken, out, Waits, word_of, slot_of, slot_out, Turns, There, Fits, Inside, Good, Kept}
+use Rattle.turnstile.specs.Rule.{About, Turn, free, taken, out, Waits, word_of, slot_of, slot_out, Turns, There, FitsView, Inside, Good, Kept}
 use Rattle.turnstile.specs.Steps.{Sat}
 use Rattle.turnstile.proofs.Begins.{begins_on, begins_length, all_on}
 use Rattle.turnstile.proofs.Sums.{total_set}
@@ -22,7 +22,7 @@ pub is_not : (b : Bool) → b ≡ true → b ≡ false → ⊥
 is_not b t f = cc
 
 module _ {T : Type 0} where
-  pub stays : (about : About) (log log' : List Entry) (turn turn' : Turn T) (given given' j : ℕ) (u : View) → Fits about log turn given j u → IsPrefix log log' → given ≤ given' → Turns turn' log' j u → Fits about log' turn' given' j u
+  pub stays : (about : About) (log log' : List Entry) (turn turn' : Turn T) (given given' j : ℕ) (u : View) → FitsView about log turn given j u → IsPrefix log log' → given ≤ given' → Turns turn' log' j u → FitsView about log' turn' given' j u
   stays about log log' turn turn' given given' j u f on more turns = let len = begins_length log log' on in record {
     born = f.born;
     seen = begins_on u.seen log log' f.seen on;
@@ -36,8 +36,8 @@ module _ {T : Type 0} where
   }
 
   pub changes : (history : T → List Entry) (origin : T → Origin) (about : About) (log log' : List Entry) (turn turn' : Turn T) (given given' : ℕ) (views : List View) (id : ℕ) (v w : View)
-      → Good history origin about log turn given views → get_elem? views id ≡ some v → Inside history origin about turn' log' → There turn' (set views id w) → given' ≤ about.seats → Fits about log' turn' given' id w
-      → ((j : ℕ) (u : View) → j ≢ id → Fits about log turn given j u → Fits about log' turn' given' j u)
+      → Good history origin about log turn given views → get_elem? views id ≡ some v → Inside history origin about turn' log' → There turn' (set views id w) → given' ≤ about.seats → FitsView about log' turn' given' id w
+      → ((j : ℕ) (u : View) → j ≢ id → FitsView about log turn given j u → FitsView about log' turn' given' j u)
       → ((k : ℕ) → times k w.mine + once_below k (length log) ≡ times k v.mine + once_below k (length log'))
       → ((n : ℕ) → times n (numbers w) + once_below n given ≡ times n (numbers v) + once_below n given')
       → Good history origin about log' turn' given' (set views id w)
@@ -45,7 +45,7 @@ module _ {T : Type 0} where
     inside = inside;
     there = there;
     few = few;
-    each = λ j u e. ⊎_elim (λ (t : (j ≡ id) × (w ≡ u)). subst (λ (z : ℕ × View). Fits about log' turn' given' z.0 z.1) (λ i. (sym t.0 i, t.1 i)) fits) (λ (t : (j ≢ id) × (get_elem? views j ≡ some u)). others j u t.0 (g.each j u t.1)) (at_set views id j w u e);
+    each = λ j u e. ⊎_elim (λ (t : (j ≡ id) × (w ≡ u)). subst (λ (z : ℕ × View). FitsView about log' turn' given' z.0 z.1) (λ i. (sym t.0 i, t.1 i)) fits) (λ (t : (j ≢ id) × (get_elem? views j ≡ some u)). others j u t.0 (g.each j u t.1)) (at_set views id j w u e);
     places = λ k. let s = total_set (λ (u : View). times k u.mine) views id v w at in let p = g.places k in let q = places k in omega arith;
     names = λ n. let s = total_set (λ (u : View). times n (numbers u)) views id v w at in let p = g.names n in let q = names n in omega arith;
   }

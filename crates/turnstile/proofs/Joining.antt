@@ -10,7 +10,7 @@ use Rattle.kernel_values.specs.Origin.{Origin}
 use Rattle.turnstile.specs.declared.view.View.{View}
 use Rattle.turnstile.specs.Numbers.{times}
 use Rattle.turnstile.specs.Views.{child, both, given_up, numbers, own_number, longer}
-use Rattle.turnstile.specs.Rule.{About, Turn, free, taken, out, Turns, There, Fits, Good, Kept}
+use Rattle.turnstile.specs.Rule.{About, Turn, free, taken, out, Turns, There, FitsView, Good, Kept}
 use Rattle.turnstile.proofs.Begins.{begins_length, all_of_both, longer_begins, longer_length, longer_within, longer_first}
 use Rattle.turnstile.proofs.Sums.{total_set, total_more, total_two, times_append, at_most_once}
 use Rattle.turnstile.proofs.Rising.{rises_wider, rises_merged, times_merged}
@@ -45,7 +45,7 @@ module _ {T : Type 0} (history : T → List Entry) (origin : T → Origin) (abou
     there = longer_there turn views (child v) g.there;
     few = g.few;
     each = λ j u e. ⊎_elim (λ t. g.each j u t)
-        (λ is. let fits : Fits about log turn given j (child v) = record { born = λ _. f.born live; seen = f.seen; olds = tt; knows = f.knows; known = f.known; mine = tt; drawn = f.drawn; turns = child_turns log turn given views v u j g e is; fresh = λ _. (refl, refl, refl) } in subst (Fits about log turn given j) is fits)
+        (λ is. let fits : FitsView about log turn given j (child v) = record { born = λ _. f.born live; seen = f.seen; olds = tt; knows = f.knows; known = f.known; mine = tt; drawn = f.drawn; turns = child_turns log turn given views v u j g e is; fresh = λ _. (refl, refl, refl) } in subst (FitsView about log turn given j) is fits)
         (at_snoc views (child v) u j e);
     places = λ k. let s = total_more (λ (u : View). times k u.mine) views (child v) in let p = g.places k in omega arith;
     names = λ n. let s = total_more (λ (u : View). times n (numbers u)) views (child v) in let p = g.names n in omega arith;
@@ -70,7 +70,7 @@ module _ {T : Type 0} (history : T → List Entry) (origin : T → Origin) (abou
     t.1,
   )
 
-  both_fits : (log : List Entry) (turn : Turn T) (given j k n : ℕ) (v w : View) → Fits about log turn given j v → Fits about log turn given k w → v.number ≡ Some n → ((p : ℕ) → times p v.mine + times p w.mine ≤ 1) → Fits about log turn given j (both v w)
+  both_fits : (log : List Entry) (turn : Turn T) (given j k n : ℕ) (v w : View) → FitsView about log turn given j v → FitsView about log turn given k w → v.number ≡ Some n → ((p : ℕ) → times p v.mine + times p w.mine ≤ 1) → FitsView about log turn given j (both v w)
   both_fits log turn given j k n v w f g num apart = let len = longer_length v.seen w.seen in let a = f.knows in let b = g.knows in let c = f.known in let d = g.known in let p = f.drawn in let q = g.drawn in record {
     born = f.born;
     seen = longer_begins v.seen w.seen log f.seen g.seen;
@@ -88,7 +88,7 @@ module _ {T : Type 0} (history : T → List Entry) (origin : T → Origin) (abou
   spent_turns log (taken id n x) j w idle t = ((λ e. absurd (is_not w.has_turn (t.0 e).0 idle)), λ _. (refl, refl, refl))
   spent_turns log (out opens id n) j w idle t = ((λ e. absurd (is_not w.has_turn (t.0 e).0 idle)), λ _. (refl, refl, refl))
 
-  spent_fits : (log : List Entry) (turn : Turn T) (given j : ℕ) (w : View) → w.has_turn ≡ false → Fits about log turn given j w → Fits about log turn given j given_up
+  spent_fits : (log : List Entry) (turn : Turn T) (given j : ℕ) (w : View) → w.has_turn ≡ false → FitsView about log turn given j w → FitsView about log turn given j given_up
   spent_fits log turn given j w idle f = record {
     born = λ e. absurd (is_not true refl e);
     seen = (log, refl);
@@ -114,8 +114,8 @@ module _ {T : Type 0} (history : T → List Entry) (origin : T → Origin) (abou
         inside = g.inside;
         there = joined_there turn views id other v (both v w) w at at' g.there;
         few = g.few;
-        each = λ j u e. ⊎_elim (λ (t : (j ≡ other) × (given_up ≡ u)). subst (λ (z : ℕ × View). Fits about log turn given z.0 z.1) (λ i. (sym t.0 i, t.1 i)) (spent_fits log turn given other w idle fw))
-            (λ (t : (j ≢ other) × (get_elem? (set views id (both v w)) j ≡ some u)). ⊎_elim (λ (r : (j ≡ id) × (both v w ≡ u)). subst (λ (z : ℕ × View). Fits about log turn given z.0 z.1) (λ i. (sym r.0 i, r.1 i)) (both_fits log turn given id other n v w fv fw num apart))
+        each = λ j u e. ⊎_elim (λ (t : (j ≡ other) × (given_up ≡ u)). subst (λ (z : ℕ × View). FitsView about log turn given z.0 z.1) (λ i. (sym t.0 i, t.1 i)) (spent_fits log turn given other w idle fw))
+            (λ (t : (j ≢ other) × (get_elem? (set views id (both v w)) j ≡ some u)). ⊎_elim (λ (r : (j ≡ id) × (both v w ≡ u)). subst (λ (z : ℕ × View). FitsView about log turn given z.0 z.1) (λ i. (sym r.0 i, r.1 i)) (both_fits log turn given id other n v w fv fw num apart))
             (λ (r : (j ≢ id) × (get_elem? views j ≡ some u)). g.each j u r.1) (at_set views id j (both v w) u t.1))
             (at_set (set views id (both v w)) other j given_up u e);
         places = λ k. let a = total_set (λ (u : View). times k u.mine) views id v (both v w) at in let b = total_set (λ (u : View). times k u.mine) (set views id (both v w)) other w given_up at' in let c = g.places k in let d = times_merged k v.mine w.mine in omega arith;

@@ -14,7 +14,7 @@ use Rattle.kernel_values.specs.Origin.{Origin}
 use Rattle.turnstile.specs.declared.view.View.{View}
 use Rattle.turnstile.specs.Numbers.{times, once_below, total}
 use Rattle.turnstile.specs.Views.{first_view, won, tried, fetched, counted, drew, missed, numbers, own_number}
-use Rattle.turnstile.specs.Rule.{About, Turn, free, taken, out, AllBegin, word_of, slot_of, Turns, There, Fits, Good, Kept}
+use Rattle.turnstile.specs.Rule.{About, Turn, free, taken, out, AllBegin, word_of, slot_of, Turns, There, FitsView, Good, Kept}
 use Rattle.turnstile.specs.Steps.{Sat, HasAllIfAlone, Takes, Counts, Fetches, Draws}
 use Rattle.turnstile.proofs.Begins.{same_begins, begins_length}
 use Rattle.turnstile.proofs.Sums.{total_at, total_two, total_alone, once, once_more, once_next, once_within, at_most_once, not_below}
@@ -35,7 +35,7 @@ pub still : (views : List View) (id j : ℕ) (v w h : View) → get_elem? views 
 still views id j v w h at e = dite (ℕ_discrete j id) (λ same. (w, subst (λ z. get_elem? (set views id w) z ≡ some w) (sym same) (placed_at views id v w at))) (λ ne. (h, set_else views id j w ne ∙ e))
 
 module _ {T : Type 0} (history : T → List Entry) (origin : T → Origin) where
-  first_fits : (about : About) (x value : T) (j : ℕ) → about ≡ record { origin = origin value; seats = about.seats } → Fits about (history value) (free x) 1 j (first_view (history value) (origin value) about.seats)
+  first_fits : (about : About) (x value : T) (j : ℕ) → about ≡ record { origin = origin value; seats = about.seats } → FitsView about (history value) (free x) 1 j (first_view (history value) (origin value) about.seats)
   first_fits about x value j is = record {
     born = λ _. (ap (λ (a : About). a.origin) (sym is), refl);
     seen = same_begins (history value) (history value) refl;
@@ -61,8 +61,8 @@ module _ {T : Type 0} (history : T → List Entry) (origin : T → Origin) where
       inside = (ap history (sym same), ap origin (sym same));
       there = tt;
       few = omega arith;
-      each = (let go : (j : ℕ) (u : View) → get_elem? (v ∷ []) j ≡ some u → Fits about (history value) (free x) 1 j u = elim [
-        | zero ↦ (λ u e. subst (Fits about (history value) (free x) 1 zero) (some-injective v u e) (first_fits about x value zero refl))
+      each = (let go : (j : ℕ) (u : View) → get_elem? (v ∷ []) j ≡ some u → FitsView about (history value) (free x) 1 j u = elim [
+        | zero ↦ (λ u e. subst (FitsView about (history value) (free x) 1 zero) (some-injective v u e) (first_fits about x value zero refl))
         | suc j ↦ (λ u e. absurd (maybe.some-ne-none u (sym e)))
       ] in go);
       places = λ k. let t = times_below k (length (history value)) in omega arith;
@@ -84,7 +84,7 @@ module _ {T : Type 0} (history : T → List Entry) (origin : T → Origin) (abou
         omega arith,
       )
 
-  counted_fits : (log : List Entry) (turn : Turn T) (given j : ℕ) (v : View) → Fits about log turn given j v → Fits about log turn given j (counted v (length log))
+  counted_fits : (log : List Entry) (turn : Turn T) (given j : ℕ) (v : View) → FitsView about log turn given j v → FitsView about log turn given j (counted v (length log))
   counted_fits log turn given j v f = let p = begins_length v.seen log f.seen in record {
     born = f.born;
     seen = f.seen;
@@ -103,7 +103,7 @@ module _ {T : Type 0} (history : T → List Entry) (origin : T → Origin) (abou
   unmoved_there (out opens id' n) views id v w at t = still views id id' v w t.0 at t.1
 
   -- a step that changes no place, no number and nothing of the turn
-  unmoved : (log : List Entry) (turn : Turn T) (given : ℕ) (views : List View) (id : ℕ) (v w : View) → Good history origin about log turn given views → get_elem? views id ≡ some v → Fits about log turn given id w → w.mine ≡ v.mine → numbers w ≡ numbers v
+  unmoved : (log : List Entry) (turn : Turn T) (given : ℕ) (views : List View) (id : ℕ) (v w : View) → Good history origin about log turn given views → get_elem? views id ≡ some v → FitsView about log turn given id w → w.mine ≡ v.mine → numbers w ≡ numbers v
       → Good history origin about log turn given (set views id w)
   unmoved log turn given views id v w g at fits mine names = changes history origin about log log turn turn given given views id v w g at g.inside (unmoved_there turn views id v w at g.there) g.few fits (λ j u ne f. f)
       (λ k. ap (λ m. times k m + once_below k (length log)) mine) (λ n. ap (λ m. times n m + once_below n given) names)
@@ -119,7 +119,7 @@ module _ {T : Type 0} (history : T → List Entry) (origin : T → Origin) (abou
         (refl, refl, f.known),
       ))
 
-  tried_fits : (log : List Entry) (turn : Turn T) (given j word : ℕ) (v : View) → Fits about log turn given j v → Fits about log turn given j (tried v word)
+  tried_fits : (log : List Entry) (turn : Turn T) (given j word : ℕ) (v : View) → FitsView about log turn given j v → FitsView about log turn given j (tried v word)
   tried_fits log turn given j word v f = record {
     born = f.born;
     seen = f.seen;
@@ -243,7 +243,7 @@ module _ {T : Type 0} (history : T → List Entry) (origin : T → Origin) (abou
   pub fetches : (slots id : ℕ) (m : Sat T) → m.1 ≡ [] → m.0.has_turn ≡ true → m.0.loaded ≡ false → m.0.spent ≡ false → Allows (Kept history origin about) slots id m 0 (λ n. n) (Fetches history origin (step slots 0 0 0 none) m)
   fetches slots id m none' has fresh live = subst (λ (c : List (ℕ × Option T)). Allows (Kept history origin about) slots id (m.0, c) 0 (λ n. n) (Fetches history origin (step slots 0 0 0 none) (m.0, c))) (sym none') (fetches_at slots id m.0 has fresh live)
 
-  missed_fits : (log : List Entry) (turn : Turn T) (given j : ℕ) (v : View) → Fits about log turn given j v → Fits about log turn given j (missed v given)
+  missed_fits : (log : List Entry) (turn : Turn T) (given j : ℕ) (v : View) → FitsView about log turn given j v → FitsView about log turn given j (missed v given)
   missed_fits log turn given j v f = record {
     born = f.born;
     seen = f.seen;
@@ -256,7 +256,7 @@ module _ {T : Type 0} (history : T → List Entry) (origin : T → Origin) (abou
     fresh = f.fresh;
   }
 
-  drew_fits : (log : List Entry) (turn : Turn T) (given j : ℕ) (v : View) → Fits about log turn given j v → v.number ≡ None → Fits about log turn (given + 1) j (drew v given)
+  drew_fits : (log : List Entry) (turn : Turn T) (given j : ℕ) (v : View) → FitsView about log turn given j v → v.number ≡ None → FitsView about log turn (given + 1) j (drew v given)
   drew_fits log turn given j v f new = record {
     born = f.born;
     seen = f.seen;

@@ -67,7 +67,7 @@ module _ {T : Type 0} where
   There (out opens id n) views = (v : View) × (get_elem? views id ≡ some v)
 
   -- what is known of the view of seat j, where `given` numbers were drawn
-  pub record Fits (about : About) (log : List Entry) (turn : Turn T) (given j : ℕ) (v : View) : Type 0 where
+  pub record FitsView (about : About) (log : List Entry) (turn : Turn T) (given j : ℕ) (v : View) : Type 0 where
     pub born : v.spent ≡ false → (v.origin ≡ about.origin) × (v.seats ≡ about.seats)
     pub seen : IsPrefix v.seen log
     pub olds : AllBegin v.olds log
@@ -90,7 +90,7 @@ module _ {T : Type 0} where
       pub inside : Inside turn log
       pub there : There turn views
       pub few : given ≤ about.seats
-      pub each : (j : ℕ) (v : View) → get_elem? views j ≡ some v → Fits about log turn given j v
+      pub each : (j : ℕ) (v : View) → get_elem? views j ≡ some v → FitsView about log turn given j v
       pub places : (k : ℕ) → total (λ v. times k v.mine) views ≡ once_below k (length log)
       pub names : (n : ℕ) → total (λ v. times n (numbers v)) views ≡ once_below n given
 

@@ -4,7 +4,7 @@ use Rattle.std.specs.Option.{option_map}
 use Rattle.std.specs.List.{position_or_len}
 use Rattle.std.proofs.lemmas.Bool.Decides.{nat_tests}
 use Rattle.kernel_values.specs.declared.flags.Events.{Events}
-use Rattle.handle_set.specs.declared.records.Told.{Told}
+use Rattle.handle_set.specs.declared.records.TrackedMember.{TrackedMember}
 use Rattle.handle_set.specs.declared.settle.OpenSet.{OpenSet}
 use Rattle.handle_set.specs.Members.{set_if}
 use Rattle.handle_set.specs.Sets.{CanHave, IsUpToDate, are_of, has_id, has_ready, id_of, is_open, members_changed, ready_in, with_changed}
@@ -39,12 +39,12 @@ can_have sets id events is =
     let none : ready_in sets (id + 1) ≡ None = ap (option_map has_ready) (none_found sets (id + 1) (closed_other sets id is)) in
     subst (λ r. are_of r events) (sym none) tt
 
-pub ids_changed : (change : List Told → List Told) (id : ℕ) (sets : List OpenSet) → map id_of (members_changed change id sets) ≡ map id_of sets
+pub ids_changed : (change : List TrackedMember → List TrackedMember) (id : ℕ) (sets : List OpenSet) → map id_of (members_changed change id sets) ≡ map id_of sets
 ids_changed change id sets = by_place (slice_get sets (position_or_len (has_id id) sets)) refl
   where
     by_place : (o : Option OpenSet) → slice_get sets (position_or_len (has_id id) sets) ≡ o → map id_of (set_if sets (position_or_len (has_id id) sets) (option_map (with_changed change) o)) ≡ map id_of sets
     by_place None is = refl
     by_place (Some s) is = changed_ids change sets (position_or_len (has_id id) sets) s is
 
-pub ids_after : (change : List Told → List Told) (id : ℕ) (sets now : List OpenSet) → IsUpToDate (members_changed change id sets) now → map id_of now ≡ map id_of sets
+pub ids_after : (change : List TrackedMember → List TrackedMember) (id : ℕ) (sets now : List OpenSet) → IsUpToDate (members_changed change id sets) now → map id_of now ≡ map id_of sets
 ids_after change id sets now up = same_ids now (members_changed change id sets) up.shape ∙ ids_changed change id sets

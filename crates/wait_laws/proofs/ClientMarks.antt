@@ -15,14 +15,13 @@ use Rattle.kernel_values.specs.declared.world.ClientActivity.{ClientActivity}
 use Rattle.kernel_values.specs.declared.world.ClientActivity.TheVariants as activity
 use Rattle.kernel_values.specs.declared.world.ClientState.{ClientState}
 use Rattle.kernel_values.specs.declared.world.ClientWait.{ClientWait}
-use Rattle.kernel_types.specs.Built.{is_built}
 use Rattle.kernel_types.specs.Clients.{Acted, client_cancelled, client_changed, client_ended, client_running, client_waiting}
 use Rattle.kernel_types.specs.CoreStep.{core_begin, core_resume, idle_answer}
 use Rattle.kernel_types.specs.Device.{DeviceStep, device_step}
 use Rattle.kernel_types.specs.History.{entry_of}
 use Rattle.kernel_types.specs.Objects.{map_at}
 use Rattle.kernel_types.specs.Outcome.{Outcome, no_seqs}
-use Rattle.kernel_types.specs.Step.{Stepped, begin, beside_core, client_begin, client_number, client_resume, device_stepped, full_step, idle, idle_lawful, in_world, is_thread, next_deadline, step, world_idle}
+use Rattle.kernel_types.specs.Step.{Stepped, begin, beside_core, client_begin, client_number, client_resume, device_stepped, step, idle, idle_lawful, in_world, is_thread, next_deadline, world_idle}
 use Rattle.step_laws.proofs.Bridged.{DeviceKeeps, DeviceKeepsIf, any_change, device_keeps}
 use Rattle.run_laws.proofs.ClientSteps.{end_same, is_no_thread}
 use Rattle.run_laws.proofs.Longer.{entry_with}
@@ -226,9 +225,9 @@ module _ (entries : List Entry) (s : State) (old : ClientsMarked entries (length
       subst (λ (x : Stepped). Marks event.Idle x) same (idle_marked (next_deadline s))
 
   pub step_marks : (e : Event) (r : Stepped) → step s e ≡ Some r → Marks e r
-  unfolding step full_step
+  unfolding step
   step_marks (event.Begin actor start asked) r is =
-      begin_by actor.0 start asked r (is_thread s actor.0) refl (only_if (is_built asked) (begin s actor.0 start asked) r is).1
+      begin_by actor.0 start asked r (is_thread s actor.0) refl is
   step_marks (event.Resume actor start) r is = resume_by actor.0 start r (is_thread s actor.0) refl is
   step_marks event.Device r is = device_by r is
   step_marks event.Idle r is = idle_by r is

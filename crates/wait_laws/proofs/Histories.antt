@@ -14,7 +14,7 @@ use Rattle.kernel_types.specs.CoreStep.{core_resume, status_of}
 use Rattle.kernel_types.specs.History.{Legal, entry_of, next_state, state_after, state_or, step_entry}
 use Rattle.kernel_types.specs.Opening.{opening}
 use Rattle.kernel_types.specs.Outcome.{Outcome}
-use Rattle.kernel_types.specs.Step.{Stepped, full_step, in_world, is_thread, step, beside_core, client_number, client_resume, client_status}
+use Rattle.kernel_types.specs.Step.{Stepped, step, in_world, is_thread, beside_core, client_number, client_resume, client_status}
 use Rattle.kernel_types.proofs.Actors.{resume_of_thread}
 use Rattle.run_laws.proofs.Everyone.{Everyone}
 use Rattle.run_laws.proofs.Opening.{everyone_opened}
@@ -97,7 +97,7 @@ at_point entries s (first ∷ before) entry after old legal =
 
 resumes : (s : State) (k start : ℕ) (r : Stepped) → is_thread s k ≡ true → step s (event.Resume (record { 0 = k }) start) ≡ Some r
     → (o : Outcome) × (core_resume s.core k start ≡ Some o) × (r ≡ in_world s.world o)
-unfolding step full_step
+unfolding step
 resumes s k start r here is = mapped (in_world s.world) (core_resume s.core k start) r (sym (resume_of_thread s k start here) ∙ is)
 
 told_of : (s : State) (k start : ℕ) (outcome : Outcome) (b : Woken s.core k start outcome) → is_told s.core k ≡ is_told_of s.core b.found.app b.wait.on
@@ -156,7 +156,7 @@ client_resumes s k start r false none is = mapped (beside_core s.core) (client_r
 
 client_steps : (s : State) (k start : ℕ) (r : Stepped) → is_thread s k ≡ false → step s (event.Resume (record { 0 = k }) start) ≡ Some r
     → (o : Acted) × (client_resume s (client_number s k) start ≡ Some o) × (r ≡ beside_core s.core o)
-unfolding step full_step
+unfolding step
 client_steps s k start r none is = client_resumes s k start r (is_thread s k) none is
 
 client_ends_at : (entries : List Entry) (s : State) (entry : Entry) → ClientsMarked entries (length s.core.threads) s.world.clients → StepOf s entry → (k start : ℕ) → is_thread s k ≡ false

@@ -13,13 +13,12 @@ use Rattle.kernel_values.specs.declared.state.Thread.{Thread}
 use Rattle.kernel_values.specs.declared.state.Wait.{Wait}
 use Rattle.kernel_types.proofs.Actors.{thread_is_thread}
 use Rattle.kernel_types.specs.Applications.{is_over}
-use Rattle.kernel_types.specs.Built.{is_built}
 use Rattle.kernel_types.specs.Clients.{Acted}
 use Rattle.kernel_types.specs.CoreStep.{act, core_begin, core_idle, core_resume, idle_answer}
 use Rattle.kernel_types.specs.Device.{DeviceStep, device_step}
 use Rattle.kernel_types.specs.History.{entry_of}
 use Rattle.kernel_types.specs.Outcome.{Outcome, no_seqs}
-use Rattle.kernel_types.specs.Step.{Stepped, begin, beside_core, client_begin, client_number, client_resume, device_stepped, full_step, idle, idle_lawful, in_world, is_thread, next_deadline, step}
+use Rattle.kernel_types.specs.Step.{Stepped, begin, beside_core, client_begin, client_number, client_resume, device_stepped, step, idle, idle_lawful, in_world, is_thread, next_deadline}
 use Rattle.kernel_types.specs.Sweep.{sweep}
 use Rattle.kernel_types.specs.Threads.{running_activity, with_activity}
 use Rattle.step_laws.proofs.Acting.{DoesIf, act_goes}
@@ -150,9 +149,9 @@ module _ (entries : List Entry) (s : State) (old : AllMarked entries s.core.thre
       idle_marked (next_deadline s) j since wait (same_waited gone.threads (sweep gone).threads (sweep_leaves gone).threads j since wait w))
 
   pub step_marks : (e : Event) (r : Stepped) → step s e ≡ Some r → Marks e r
-  unfolding step full_step
+  unfolding step
   step_marks (event.Begin actor start asked) r is =
-      begin_by actor.0 start asked r (is_thread s actor.0) refl (only_if (is_built asked) (begin s actor.0 start asked) r is).1
+      begin_by actor.0 start asked r (is_thread s actor.0) refl is
   step_marks (event.Resume actor start) r is = resume_by actor.0 start r (is_thread s actor.0) refl is
   step_marks event.Device r is = device_by r is
   step_marks event.Idle r is = idle_by r is

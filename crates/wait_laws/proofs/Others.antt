@@ -5,12 +5,11 @@ use Rattle.kernel_values.specs.declared.call.Call.{Call}
 use Rattle.kernel_values.specs.declared.entry.Event.{Event}
 use Rattle.kernel_values.specs.declared.entry.Event.TheVariants as event
 use Rattle.kernel_values.specs.declared.state.State.{State}
-use Rattle.kernel_types.specs.Built.{is_built}
 use Rattle.kernel_types.specs.Clients.{Acted}
 use Rattle.kernel_types.specs.CoreStep.{core_begin, idle_answer}
 use Rattle.kernel_types.specs.Device.{DeviceStep, device_step}
 use Rattle.kernel_types.specs.Outcome.{Outcome}
-use Rattle.kernel_types.specs.Step.{Stepped, begin, beside_core, client_begin, client_number, device_stepped, full_step, idle, idle_lawful, in_world, is_thread, next_deadline, step}
+use Rattle.kernel_types.specs.Step.{Stepped, begin, beside_core, client_begin, client_number, device_stepped, step, idle, idle_lawful, in_world, is_thread, next_deadline}
 use Rattle.wait_laws.specs.Cancelling.{is_cancelled, is_end_of_wait}
 use Rattle.wait_laws.proofs.Calling.{act_other}
 use Rattle.wait_laws.proofs.ClientCalling.{act_calls, calls_other}
@@ -42,9 +41,9 @@ idle_other None = refl
 idle_other (Some deadline) = refl
 
 pub step_other : (s : State) (e : Event) (r : Stepped) → step s e ≡ Some r → is_end_of_wait e ≡ false → is_cancelled r.answer ≡ false
-unfolding step full_step
+unfolding step
 step_other s (event.Begin actor start asked) r is other =
-    begin_other s actor.0 start asked r (is_thread s actor.0) (only_if (is_built asked) (begin s actor.0 start asked) r is).1
+    begin_other s actor.0 start asked r (is_thread s actor.0) is
 step_other s (event.Resume actor start) r is other = absurd (cc)
 step_other s event.Device r is other =
     let out : (done : DeviceStep) × (device_step s ≡ Some done) × (r ≡ device_stepped done) = mapped device_stepped (device_step s) r is in

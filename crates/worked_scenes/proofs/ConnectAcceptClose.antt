@@ -8,8 +8,8 @@ use Rattle.kernel_values.specs.SceneLaw.{SceneValue}
 use Rattle.kernel_types.specs.OnLiterals.{kernel_on_literals}
 use Rattle.kernel_types.specs.Serial.{serial_run}
 use Rattle.worked_scenes.specs.Scenes.{scene_of, app, plain_manifest, line}
-use Rattle.worked_scenes.specs.Shown.{told}
-use Rattle.worked_scenes.specs.Shown.Shown.{Called}
+use Rattle.worked_scenes.specs.Printouts.{told}
+use Rattle.worked_scenes.specs.Printouts.Shown.{Called}
 
 abbrev scene : SceneValue
 scene = scene_of (

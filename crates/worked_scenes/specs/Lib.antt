@@ -1,2 +1,2 @@
 pub mod Scenes
-pub mod Shown
+pub mod Printouts

@@ -7,7 +7,7 @@ use Rattle.kernel_values.specs.declared.script.RegRead.{RegRead}
 use Rattle.kernel_values.specs.declared.scene.App.{App}
 use Rattle.kernel_values.specs.declared.scene.Manifest.{Manifest}
 use Rattle.kernel_values.specs.SceneLaw.{SceneValue, scripts_of}
-use Rattle.kernel_types.specs.Step.{full_step}
+use Rattle.kernel_types.specs.Step.{step}
 use Rattle.kernel_types.specs.Turns.{Run, opening_run, run_from, serial_from, history_limit}
 use Rattle.kernel_types.specs.Serial.{run_or}
 use Rattle.kernel_types.specs.Facts.{names_at, end_facts}
@@ -32,8 +32,8 @@ scene_of apps = record { apps = apps; clients = []; queue = 16; turns = [] }
 
 -- the run of the first turns of the serial order
 abbrev pub run_of_first : ℕ → SceneValue → Run
-run_of_first count scene = run_or (opening_run scene) (run_from full_step (scripts_of scene) 0 (opening_run scene)
-    (take count (serial_from full_step (scripts_of scene) history_limit None (opening_run scene))))
+run_of_first count scene = run_or (opening_run scene) (run_from step (scripts_of scene) 0 (opening_run scene)
+    (take count (serial_from step (scripts_of scene) history_limit None (opening_run scene))))
 
 -- after this many entries, how many entries name an object
 abbrev pub names_after : ℕ → SceneValue → ℕ → Option ℕ

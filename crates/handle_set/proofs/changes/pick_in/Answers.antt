@@ -1,6 +1,6 @@
 use Rattle.std.proofs.Common.{◌≡◌, ◌∙◌, ◌<◌, ℕ, List, length, set, get_or, slice_get, Some, sym, ap, subst}
 use Rattle.std.specs.List.{position_or_len}
-use Rattle.handle_set.specs.declared.records.Told.{Told}
+use Rattle.handle_set.specs.declared.records.TrackedMember.{TrackedMember}
 use Rattle.handle_set.specs.declared.settle.OpenSet.{OpenSet}
 use Rattle.handle_set.specs.Sets.{has_id, with_members, with_changed, of_set, first_ready, reported, members_changed, IsSettled}
 use Rattle.handle_set.proofs.Places.{got}
@@ -12,13 +12,13 @@ module _ (sets : List OpenSet) (id place : ℕ) (s : OpenSet) (place_is : place 
   here : slice_get sets place ≡ Some s
   here = got sets place s within s_is
 
-  written : (members : List Told) → members ≡ reported s.members → set sets place (with_members members (get_or sets place s)) ≡ set sets place (with_changed reported s)
+  written : (members : List TrackedMember) → members ≡ reported s.members → set sets place (with_members members (get_or sets place s)) ≡ set sets place (with_changed reported s)
   written members is = ap (λ ms. set sets place (with_members ms (get_or sets place s))) is ∙ ap (λ (x : OpenSet). set sets place (with_members (reported s.members) x)) (sym s_is)
 
-  whole : (members : List Told) → members ≡ reported s.members → set sets place (with_members members (get_or sets place s)) ≡ members_changed reported id sets
+  whole : (members : List TrackedMember) → members ≡ reported s.members → set sets place (with_members members (get_or sets place s)) ≡ members_changed reported id sets
   whole members is = written members is ∙ sym (changed_is reported sets id place place_is s here)
 
-  settled : (members : List Told) → members ≡ reported s.members → IsSettled sets → IsSettled (set sets place (with_members members (get_or sets place s)))
+  settled : (members : List TrackedMember) → members ≡ reported s.members → IsSettled sets → IsSettled (set sets place (with_members members (get_or sets place s)))
   settled members is was = subst IsSettled (sym (written members is)) (fewer_settled reported sets place s here picking_fewer was (any_pick s.members))
 
 pub returns-then-sets-place-clause-picked : goal.returns-then-sets-place-clause-picked

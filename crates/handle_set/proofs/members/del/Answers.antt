@@ -1,13 +1,13 @@
 use Rattle.std.proofs.Common.{◌≡◌, ◌∙◌, List, slice_get, Some, arith, sym, ap, ℕ}
 use Rattle.std.specs.Option.{option_map}
 use Rattle.std.specs.List.{filter, remove, position_or_len}
-use Rattle.handle_set.specs.declared.records.Told.{Told}
+use Rattle.handle_set.specs.declared.records.TrackedMember.{TrackedMember}
 use Rattle.handle_set.specs.Members.{AreDifferent, has_label, is_other, object_of}
 use Rattle.handle_set.proofs.Orders.{found_label, all_other, others_removed}
 use Rattle.handle_set.proofs.ReadyLists.{labelled_at, label_past}
 use Rattle.handle_set.proofs.members.del.Goals as goal
 
-gone : (members : List Told) (label at : ℕ) (told : Told) → AreDifferent members → at ≡ position_or_len (has_label label) members → slice_get members at ≡ Some told → remove members at ≡ filter (is_other label) members
+gone : (members : List TrackedMember) (label at : ℕ) (told : TrackedMember) → AreDifferent members → at ≡ position_or_len (has_label label) members → slice_get members at ≡ Some told → remove members at ≡ filter (is_other label) members
 gone members label at told different is here =
     let found = labelled_at members label at told is here in
     sym (others_removed members at told different here) ∙ ap (λ l. filter (is_other l) members) found.1

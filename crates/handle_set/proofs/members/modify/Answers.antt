@@ -2,13 +2,13 @@ use Rattle.std.proofs.Common.{◌≡◌, ◌∙◌, ◌≤◌, length, arith, sy
 use Rattle.std.specs.Option.{option_map}
 use Rattle.std.specs.List.{position_or_len}
 use Rattle.kernel_values.specs.declared.flags.Events.{Events}
-use Rattle.handle_set.specs.declared.records.Told.{Told}
+use Rattle.handle_set.specs.declared.records.TrackedMember.{TrackedMember}
 use Rattle.handle_set.specs.Members.{has_label, remasked, set_if, with_mask, with_mask_at}
 use Rattle.handle_set.proofs.Orders.{none_at, found_label, label_found}
 use Rattle.handle_set.proofs.ReadyLists.{labelled_at, label_past}
 use Rattle.handle_set.proofs.members.modify.Goals as goal
 
-unmasked : (members : List Told) (label at : ℕ) (mask : Events) (cookie : ℕ) → at ≡ position_or_len (has_label label) members → length members ≤ at → members ≡ remasked label mask cookie members
+unmasked : (members : List TrackedMember) (label at : ℕ) (mask : Events) (cookie : ℕ) → at ≡ position_or_len (has_label label) members → length members ≤ at → members ≡ remasked label mask cookie members
 unmasked members label at mask cookie is past =
     ap (λ o. set_if members at (option_map (with_mask mask cookie) o)) (sym (none_at members at past)) ∙ ap (λ k. with_mask_at k mask cookie members) is
 

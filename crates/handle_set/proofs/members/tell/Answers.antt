@@ -1,6 +1,6 @@
 use Rattle.std.proofs.Common.{◌≡◌, ◌∙◌, ap, refl, false, arith, add-one, ℕ, eq-eqb, ◌==◌}
 use Rattle.std.proofs.lemmas.Bool.Decides.{nat_tests}
-use Rattle.handle_set.specs.declared.records.Told.{Told}
+use Rattle.handle_set.specs.declared.records.TrackedMember.{TrackedMember}
 use Rattle.kernel_values.specs.declared.flags.Events.{Events}
 use Rattle.handle_set.specs.Members.{with_events, with_told, map_at}
 use Rattle.handle_set.proofs.Turns.{step, skip}
@@ -10,10 +10,10 @@ use Rattle.handle_set.proofs.members.tell.Goals.{then-told-object, else-told-obj
 unequal : (a b : ℕ) → (a ≡ b → ⊥) → (a == b) ≡ false
 unequal a b other = grind (arith, nat_tests)
 
-told_here : (object : ℕ) (events : Events) (told : Told) → told.object.serial ≡ object → with_events events told ≡ with_told object events told
+told_here : (object : ℕ) (events : Events) (told : TrackedMember) → told.object.serial ≡ object → with_events events told ≡ with_told object events told
 told_here object events told is = rw (eq-eqb told.object.serial object is) refl
 
-told_other : (object : ℕ) (events : Events) (told : Told) → (told.object.serial ≡ object → ⊥) → told ≡ with_told object events told
+told_other : (object : ℕ) (events : Events) (told : TrackedMember) → (told.object.serial ≡ object → ⊥) → told ≡ with_told object events told
 told_other object events told other = rw (unequal told.object.serial object other) refl
 
 pub loop-at-preserved : goal.loop-at-preserved

@@ -1,5 +1,5 @@
 use Rattle.std.proofs.Common.{◌≡◌, ◌++◌, map, take}
-use Rattle.plain_objects.specs.Tests.{server_object}
+use Rattle.plain_objects.specs.Predicates.{server_object}
 use Rattle.plain_calls.proofs.ports.add_servers.Given as goal
 
 abbrev pub invariant-loop-client : goal.invariant-loop-client

@@ -1,5 +1,5 @@
 use Rattle.std.proofs.Common.{◌≡◌, map, take}
-use Rattle.plain_objects.specs.Tests.{part_object}
+use Rattle.plain_objects.specs.Predicates.{part_object}
 use Rattle.plain_calls.proofs.sends.part_objects.Given as goal
 
 abbrev pub invariant-loop-handle : goal.invariant-loop-handle

@@ -1,6 +1,6 @@
 use Rattle.std.proofs.Common.{rules, ◌≤◌, ◌+◌, length, take, get_or, arith, sum_by, ap}
 use Rattle.std.proofs.lemmas.List.Sums.{sum_by_more_le}
-use Rattle.plain_objects.specs.Tests.{names_on}
+use Rattle.plain_objects.specs.Predicates.{names_on}
 use Rattle.plain_kernel.proofs.Summing.{sum_fits}
 use Rattle.plain_kernel.proofs.facts.sum_names.Goals as goal
 

@@ -1,5 +1,5 @@
 use Rattle.std.proofs.Common.{◌≡◌, sum_by, take}
-use Rattle.plain_objects.specs.Tests.{names_on}
+use Rattle.plain_objects.specs.Predicates.{names_on}
 use Rattle.plain_kernel.proofs.facts.sum_names.Given as goal
 
 abbrev pub invariant-loop-object : goal.invariant-loop-object

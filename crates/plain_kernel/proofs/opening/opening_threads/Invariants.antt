@@ -1,6 +1,6 @@
 use Rattle.std.proofs.Common.{◌++◌, drop, ◌≡◌}
 use Rattle.std.specs.List.{flat_map, enumerate_from}
-use Rattle.plain_objects.specs.Tests.{place_threads}
+use Rattle.plain_objects.specs.Predicates.{place_threads}
 use Rattle.plain_kernel.proofs.opening.opening_threads.Given as goal
 
 abbrev pub invariant-loop-app : goal.invariant-loop-app

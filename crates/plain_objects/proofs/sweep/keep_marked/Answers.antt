@@ -1,6 +1,6 @@
 use Rattle.std.proofs.Common.{rules}
 use Rattle.std.proofs.lemmas.Fn.{filter_same}
-use Rattle.plain_objects.specs.Tests.{is_kept}
+use Rattle.plain_objects.specs.Predicates.{is_kept}
 use Rattle.plain_objects.proofs.sweep.keep_marked.Goals as goal
 
 pub returns : goal.returns

@@ -1,7 +1,7 @@
 use Rattle.std.proofs.Common.{rules, ◌≡◌, ◌∙◌, []}
 use Rattle.std.specs.List.{filter}
 use Rattle.plain_objects.specs.Pending.{pending_at, with_pending}
-use Rattle.plain_objects.specs.Tests.{is_served}
+use Rattle.plain_objects.specs.Predicates.{is_served}
 use Rattle.plain_objects.proofs.Pruning.{put_back}
 use Rattle.plain_objects.proofs.sweep.prune_at.Goals as goal
 

@@ -1,7 +1,7 @@
 use Rattle.std.proofs.Common.{◌≡◌, ◌≤◌, ◌+◌, ◌*◌, max, map, drop}
 use Rattle.std.specs.List.{filter}
 use Rattle.kernel_types.specs.Sets.{greatest, depth_above}
-use Rattle.plain_objects.specs.Tests.{holds_member}
+use Rattle.plain_objects.specs.Predicates.{holds_member}
 use Rattle.plain_waits.proofs.depths.+above.Given as goal
 
 abbrev pub decreases-depth_above : goal.decreases-depth_above

@@ -1,6 +1,6 @@
 use Rattle.std.specs.List.{find, filter}
 use Rattle.kernel_types.specs.Reports.{has_events}
-use Rattle.plain_objects.specs.Tests.{is_earlier_entry}
+use Rattle.plain_objects.specs.Predicates.{is_earlier_entry}
 use Rattle.std.proofs.Common.{drop, ◌≡◌}
 use Rattle.plain_waits.proofs.reports.find_earlier.Given as goal
 

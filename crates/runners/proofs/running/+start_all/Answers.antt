@@ -3,7 +3,7 @@ use Rattle.std.specs.Prelude.{All, IfSome}
 use Rattle.std.proofs.lemmas.List.Elements.{All-pop, All-push}
 use Rattle.turnstile.specs.declared.lock.Turnstile.{Turnstile}
 use Rattle.runners.specs.declared.by_turns.Worker.{Worker}
-use Rattle.runners.specs.Runs.{Told}
+use Rattle.runners.specs.Runs.{ScriptedRun}
 use denote.Param.{param}
 use denote.Param.Send.{param_send}
 use Rattle.runners.specs.contracts.shared.Shared.{the_row as shared_row}
@@ -18,7 +18,7 @@ use Rattle.runners.proofs.running.+start_all.Goals as goal
 
 -- of the worker that was taken out, and of those that are left
 
-popped : (t : Turnstile Told) (before rest : List Worker) (r : Option Worker) (worker : Worker) → before ≡ rest ++ option_to_list r → r ≡ Some worker → All (Serves t) before
+popped : (t : Turnstile ScriptedRun) (before rest : List Worker) (r : Option Worker) (worker : Worker) → before ≡ rest ++ option_to_list r → r ≡ Some worker → All (Serves t) before
     → All (Serves t) rest × Serves t worker
 popped t before rest r worker are is all =
     let both : All (Serves t) rest × IfSome r (Serves t) = All-pop (Serves t) before rest r are all in
@@ -40,7 +40,7 @@ pub returns-in-Ok-push-clause-all : goal.returns-in-Ok-push-clause-all
 returns-in-Ok-push-clause-all g n c =
     subst (All (Serves c.args.turnstile.now)) (sym c.in-Ok-push.ensures.items)
     (All-push (Serves c.args.turnstile.now) c.in_ok-workers-in-Ok.workers.items c.join.result c.in_ok-workers-in-Ok.ensures.all
-    (subst (λ (t : Turnstile Told). Serves t c.join.result) (ap (λ p. p.turnstile.value) c.in-Ok.ensures.ok ∙ c.of.ensures) c.join.ensures))
+    (subst (λ (t : Turnstile ScriptedRun). Serves t c.join.result) (ap (λ p. p.turnstile.value) c.in-Ok.ensures.ok ∙ c.of.ensures) c.join.ensures))
 
 -- of the closure that came back
 

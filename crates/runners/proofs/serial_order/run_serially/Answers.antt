@@ -4,7 +4,7 @@ use Rattle.runners.specs.declared.steps.Taken.{Taken}
 use Rattle.runners.specs.declared.steps.Taken.TheVariants as taken
 use Rattle.kernel_values.specs.Origin.{Origin}
 use Rattle.run_laws.specs.Order.{IsBelow}
-use Rattle.runners.specs.Runs.{StoodStill, Told, TookTurn}
+use Rattle.runners.specs.Runs.{StoodStill, ScriptedRun, TookTurn}
 use Rattle.runners.proofs.Ending.{Left, serial_goes, ran_over, ran_full, history_grows, same_told, stood_still}
 use Rattle.runners.proofs.serial_order.run_serially.Goals as goal
 
@@ -44,5 +44,5 @@ returns-in-Unlawful g c =
     let took : TookTurn c.in-Some.turn c.loop-made.shared c.turn.new.self taken.Unlawful =
     subst (λ (t : Taken). TookTurn c.in-Some.turn c.loop-made.shared c.turn.new.self t) c.in-Unlawful.is c.in_ok-turn.ensures.taken in
     let below : c.loop-made._made < history_limit = omega arith in
-    subst (λ (next : Told). StoodStill c.args.shared.now next) (same_told c.loop-made.shared c.turn.new.self (sym c.turn.ensures.origin) (sym took.1))
+    subst (λ (next : ScriptedRun). StoodStill c.args.shared.now next) (same_told c.loop-made.shared c.turn.new.self (sym c.turn.ensures.origin) (sym took.1))
     (stood_still c.args.shared.now c.loop-made.shared c.loop-made._made c.loop-made.last c.in-Some.turn c.loop-made.invariant.origin below (sym c.in-Some.ensures.turn) took.0 c.loop-made.invariant.left)

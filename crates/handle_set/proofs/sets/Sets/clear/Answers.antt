@@ -1,11 +1,11 @@
 use Rattle.std.proofs.Common.{◌≡◌, ◌∙◌, ◌≤◌, ℕ, List, Option, Some, None, ap, arith}
-use Rattle.handle_set.specs.declared.records.Told.{Told}
+use Rattle.handle_set.specs.declared.records.TrackedMember.{TrackedMember}
 use Rattle.handle_set.specs.Sets.{Memberships, is_member}
 use Rattle.handle_set.specs.Spares.{IsSpare}
 use Rattle.handle_set.proofs.Opening.{closed_held, closed_settled}
 use Rattle.handle_set.proofs.sets.Sets.clear.Goals as goal
 
-still : (len capacity len_2 capacity_2 : ℕ) (spare : Option (List Told)) → len_2 ≤ len → capacity_2 ≡ capacity → IsSpare len capacity spare → IsSpare len_2 capacity_2 spare
+still : (len capacity len_2 capacity_2 : ℕ) (spare : Option (List TrackedMember)) → len_2 ≤ len → capacity_2 ≡ capacity → IsSpare len capacity spare → IsSpare len_2 capacity_2 spare
 still len capacity len_2 capacity_2 None less same was = tt
 still len capacity len_2 capacity_2 (Some members) less same was = let room = was.1 in (was.0, omega arith)
 

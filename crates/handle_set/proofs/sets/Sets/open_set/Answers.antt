@@ -1,6 +1,6 @@
 use Rattle.std.proofs.Common.{◌≡◌, ◌∙◌, ◌++◌, ◌∷◌, [], List, Some, sym, ap, subst}
 use Rattle.std.proofs.lemmas.Bool.{false≢true}
-use Rattle.handle_set.specs.declared.records.Told.{Told}
+use Rattle.handle_set.specs.declared.records.TrackedMember.{TrackedMember}
 use Rattle.handle_set.specs.Holders.{IsHeld}
 use Rattle.handle_set.specs.Sets.{IsSettled, Memberships, is_member, is_open}
 use Rattle.handle_set.proofs.Opening.{opened_held, opened_settled}
@@ -15,4 +15,4 @@ invariant_of-self-2 c =
     let empty = rw here at c.self.invariant.1 in
     let same = ap (λ (m : Memberships). m.sets) c.self.view_is ∙ c.reserve.ensures.sets in
     let opened = opened_settled c.self.inside.sets.items c.args.set.serial c.self.invariant.0 (ap (λ xs. is_open xs c.args.set.serial) same ∙ c.requires.new) (ap (λ xs. is_member xs c.args.set.serial) same ∙ c.requires.alone) in
-    (rw c.push_reserved.ensures.items (subst (λ (ms : List Told). IsSettled (c.self.inside.sets.items ++ (record { id = c.args.set.serial; members = ms }) ∷ [])) (sym empty.0) opened), rw c.take.ensures.after tt, rw c.push_reserved.ensures.items (subst (λ (ms : List Told). IsHeld c.self.inside.holders (c.self.inside.sets.items ++ (record { id = c.args.set.serial; members = ms }) ∷ [])) (sym empty.0) (opened_held c.self.inside.holders c.self.inside.sets.items c.args.set.serial c.self.invariant.2)))
+    (rw c.push_reserved.ensures.items (subst (λ (ms : List TrackedMember). IsSettled (c.self.inside.sets.items ++ (record { id = c.args.set.serial; members = ms }) ∷ [])) (sym empty.0) opened), rw c.take.ensures.after tt, rw c.push_reserved.ensures.items (subst (λ (ms : List TrackedMember). IsHeld c.self.inside.holders (c.self.inside.sets.items ++ (record { id = c.args.set.serial; members = ms }) ∷ [])) (sym empty.0) (opened_held c.self.inside.holders c.self.inside.sets.items c.args.set.serial c.self.invariant.2)))

@@ -4,7 +4,7 @@ use Rattle.kernel_values.specs.declared.reply.Answer.{Answer}
 use Rattle.kernel_values.specs.declared.world.ClientActivity.TheVariants as activity
 use Rattle.kernel_values.specs.declared.world.ClientState.{ClientState}
 use Rattle.kernel_types.specs.Limits.{FitsIn, full_room}
-use Rattle.ns_driver.specs.Acts.{Told}
+use Rattle.ns_driver.specs.Acts.{DriverOutcome}
 use Rattle.ns_bridge.specs.Acts.{activity_at, client_resumed}
 use Rattle.ns_bridge.specs.Parts.{Normal, parts}
 use Rattle.ns_bridge.specs.Waits.{IsKept}
@@ -16,7 +16,7 @@ invariant_of-self-2 c =
     let old = c.self.inside in
     let start = c.in-Some-Waiting.waiting in
     let wait = c.in-Some-Waiting.wait in
-    let t : Told = record { answer = c.in_ok-answer.answer; memory = c.act.new.mem; driver = c.act.new.self.driver } in
+    let t : DriverOutcome = record { answer = c.in_ok-answer.answer; memory = c.act.new.mem; driver = c.act.new.self.driver } in
     let waits : activity_at old.clients c.args.client ≡ Some (activity.Waiting start wait) = cc in
     let e : Ends c.args.clock c.args.client start wait (parts old.memory.items old.driver.driver old.clients) t =
     ends_so c.args.clock c.args.client start wait old.memory.items c.deref.result.now c.deref_mut.result.now old.driver.driver old.driver.waits old.clients t c.wait_moves.result
@@ -34,7 +34,7 @@ returns-clause-done c =
     let start = c.in-Some-Waiting.waiting in
     let wait = c.in-Some-Waiting.wait in
     let n : Normal = parts old.memory.items old.driver.driver old.clients in
-    let t : Told = record { answer = c.in_ok-answer.answer; memory = c.act.new.mem; driver = c.act.new.self.driver } in
+    let t : DriverOutcome = record { answer = c.in_ok-answer.answer; memory = c.act.new.mem; driver = c.act.new.self.driver } in
     let waits : activity_at old.clients c.args.client ≡ Some (activity.Waiting start wait) = cc in
     let e : Ends c.args.clock c.args.client start wait n t =
     ends_so c.args.clock c.args.client start wait old.memory.items c.deref.result.now c.deref_mut.result.now old.driver.driver old.driver.waits old.clients t c.wait_moves.result
@@ -49,7 +49,7 @@ returns-clause-fits c =
     let start = c.in-Some-Waiting.waiting in
     let wait = c.in-Some-Waiting.wait in
     let n : Normal = parts old.memory.items old.driver.driver old.clients in
-    let t : Told = record { answer = c.in_ok-answer.answer; memory = c.act.new.mem; driver = c.act.new.self.driver } in
+    let t : DriverOutcome = record { answer = c.in_ok-answer.answer; memory = c.act.new.mem; driver = c.act.new.self.driver } in
     let waits : activity_at old.clients c.args.client ≡ Some (activity.Waiting start wait) = cc in
     let e : Ends c.args.clock c.args.client start wait n t =
     ends_so c.args.clock c.args.client start wait old.memory.items c.deref.result.now c.deref_mut.result.now old.driver.driver old.driver.waits old.clients t c.wait_moves.result

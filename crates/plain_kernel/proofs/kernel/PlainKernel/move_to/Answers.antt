@@ -1,6 +1,6 @@
 use Rattle.std.proofs.Common.{subst, sym}
 use Rattle.plain_kernel.specs.Orderly.{IsOrderly}
-use Rattle.plain_kernel.specs.Standing.{state_of}
+use Rattle.plain_kernel.specs.Value.{state_of}
 use Rattle.plain_kernel.specs.Steps.{whole}
 use Rattle.plain_kernel.proofs.kernel.PlainKernel.move_to.Goals as goal
 

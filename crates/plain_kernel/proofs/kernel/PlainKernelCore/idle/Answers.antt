@@ -2,7 +2,7 @@ use Rattle.std.proofs.Common.{◌≡◌, length, ap, subst, sym, ◌∙◌, arit
 use Rattle.kernel_types.specs.CoreStep.{core_idle}
 use Rattle.kernel_types.specs.Names.{naming}
 use Rattle.kernel_types.specs.Sweep.{sweep}
-use Rattle.plain_kernel.specs.Alone.{core_statuses}
+use Rattle.plain_kernel.specs.CoreSteps.{core_statuses}
 use Rattle.plain_kernel.specs.Orderly.{IsOrderly}
 use Rattle.plain_kernel.specs.Steps.{whole}
 use Rattle.plain_kernel.proofs.Clientless.{idled_statuses}

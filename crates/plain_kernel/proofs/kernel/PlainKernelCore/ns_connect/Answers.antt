@@ -1,4 +1,4 @@
-use Rattle.plain_kernel.specs.Standing.{state_of}
+use Rattle.plain_kernel.specs.Value.{state_of}
 use Rattle.plain_kernel.proofs.Orders.{connected_orderly}
 use Rattle.plain_kernel.proofs.kernel.PlainKernelCore.ns_connect.Goals as goal
 

@@ -1,5 +1,5 @@
 use Rattle.std.proofs.Common.{ap, subst, sym, ◌∙◌}
-use Rattle.plain_kernel.specs.Alone.{core_statuses}
+use Rattle.plain_kernel.specs.CoreSteps.{core_statuses}
 use Rattle.plain_kernel.specs.Orderly.{IsOrderly}
 use Rattle.plain_kernel.specs.Steps.{whole}
 use Rattle.plain_kernel.proofs.Orders.{dropped_orderly}

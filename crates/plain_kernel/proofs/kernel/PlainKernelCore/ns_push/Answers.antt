@@ -1,7 +1,7 @@
 use Rattle.std.proofs.Common.{◌≡◌, ap, subst}
 use Rattle.kernel_types.specs.Bridge.{Change, ns_push}
 use Rattle.plain_kernel.specs.Orderly.{IsOrderly}
-use Rattle.plain_kernel.specs.Standing.{state_of}
+use Rattle.plain_kernel.specs.Value.{state_of}
 use Rattle.plain_kernel.specs.Steps.{whole}
 use Rattle.plain_kernel.proofs.Orders.{pushed_orderly}
 use Rattle.plain_kernel.proofs.kernel.PlainKernelCore.ns_push.Goals as goal

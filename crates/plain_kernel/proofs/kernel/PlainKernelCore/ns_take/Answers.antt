@@ -1,6 +1,6 @@
 use Rattle.std.proofs.Common.{◌≡◌, ap, subst, sym, ◌∙◌}
 use Rattle.kernel_types.specs.Bridge.{Change, ns_take}
-use Rattle.plain_kernel.specs.Alone.{core_statuses}
+use Rattle.plain_kernel.specs.CoreSteps.{core_statuses}
 use Rattle.plain_kernel.specs.Orderly.{IsOrderly}
 use Rattle.plain_kernel.specs.Steps.{whole}
 use Rattle.plain_kernel.proofs.Orders.{taken_orderly}

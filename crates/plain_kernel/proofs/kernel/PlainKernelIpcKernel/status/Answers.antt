@@ -1,8 +1,8 @@
 use Rattle.std.proofs.Common.{rules, ◌≡◌, ◌<◌, length, None, subst, sym}
 use Rattle.std.specs.Prelude.{slice_get}
 use Rattle.kernel_types.specs.Step.{statuses}
-use Rattle.plain_kernel.specs.Alone.{core_statuses}
-use Rattle.plain_kernel.specs.Standing.{state_of}
+use Rattle.plain_kernel.specs.CoreSteps.{core_statuses}
+use Rattle.plain_kernel.specs.Value.{state_of}
 use Rattle.plain_kernel.proofs.Clientless.{none_beyond}
 use Rattle.plain_kernel.proofs.kernel.PlainKernelIpcKernel.status.Goals as goal
 

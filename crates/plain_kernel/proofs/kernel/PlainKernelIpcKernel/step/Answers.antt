@@ -1,4 +1,4 @@
-use Rattle.plain_kernel.specs.Standing.{state_of}
+use Rattle.plain_kernel.specs.Value.{state_of}
 use Rattle.plain_kernel.proofs.Orders.{next_fits, next_orderly}
 use Rattle.plain_kernel.proofs.kernel.PlainKernelIpcKernel.step.Goals as goal
 

@@ -2,7 +2,7 @@ use Rattle.std.proofs.Common.{List, sym, ◌∙◌, ap, subst}
 use Rattle.std.specs.Prelude.{slice_set}
 use Rattle.kernel_values.specs.declared.entry.ActorStatus.TheVariants as status
 use Rattle.runners.specs.Places.{Sound}
-use Rattle.runners.specs.Runs.{Told}
+use Rattle.runners.specs.Runs.{ScriptedRun}
 use Rattle.runners.specs.declared.place.Place.{Place}
 use Rattle.runners.proofs.Stepping.{set_set}
 use Rattle.runners.proofs.Turning.{Stands, may_step, over_call, sound_call, stands_running, taken_call}
@@ -29,7 +29,7 @@ returns-in_default-2-clause-taken g c =
     c.self.invariant c.legal.ensures.legal c.requires.runs (sym c.in-Some.ensures) c.index_mut-place.ensures.value c.in_ok-start_anew.ensures.anew in (
       over_call c.args.self.now c.self.inside.scripts (slice_set c.self.inside.places.items c.args.actor c.start_anew.new.self) c.self.inside.logged c.args.actor c.args.start c.start_anew.new.self s
           (sym c.in_ok-call.ensures ∙ c.in_default-2.is),
-      ap (λ (t : Told). t.history) c.self.view_is,
+      ap (λ (t : ScriptedRun). t.history) c.self.view_is,
     )
 
 pub step_of-requires : goal.step_of-requires

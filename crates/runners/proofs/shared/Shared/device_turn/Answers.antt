@@ -3,7 +3,7 @@ use Rattle.kernel_log.specs.Logs.{Wrote}
 use Rattle.kernel_log.specs.declared.logged.Receipt.{Receipt}
 use Rattle.kernel_values.specs.declared.entry.Event.TheVariants as event
 use Rattle.kernel_values.specs.declared.scene.Turn.TheVariants as turn
-use Rattle.runners.specs.Runs.{Told, run_logged}
+use Rattle.runners.specs.Runs.{ScriptedRun, run_logged}
 use Rattle.runners.specs.Steps.{Made}
 use Rattle.runners.proofs.Stepping.{sound_free, device_not_by}
 use Rattle.runners.proofs.Turning.{may_step, room_is, took_turn, unlawful_turn, device_means}
@@ -17,7 +17,7 @@ returns-in_default-clause-taken g c =
     let made : Made event.Device c.self.inside.logged c.step_once.new.logged None =
     subst (λ (r : Option Receipt). Made event.Device c.self.inside.logged c.step_once.new.logged r) c.in_default.is c.in_ok-_receipt.ensures.made in (
       unlawful_turn turn.Device c.args.self.now c.self.inside.scripts c.self.inside.logged event.Device (sym c.self.view_is) (device_means c.self.inside.scripts (run_logged c.self.inside.logged)) made.0,
-      made.1.1 ∙ ap (λ (t : Told). t.history) c.self.view_is,
+      made.1.1 ∙ ap (λ (t : ScriptedRun). t.history) c.self.view_is,
     )
 
 pub invariant_of-self-2 : goal.invariant_of-self-2

@@ -26,9 +26,9 @@ shown [] = []
 shown (entry ∷ entries) = shown_as entry.event entry.answer ∷ shown entries
 
 -- What a run prints: its entries, and the facts at its end.
-pub record Told : Type 0 where
+pub record Printout : Type 0 where
   pub entries : List Shown
   pub facts : EndFacts
 
-abbrev pub told : Run → Told
+abbrev pub told : Run → Printout
 told run = record { entries = shown run.entries; facts = end_facts run.state }

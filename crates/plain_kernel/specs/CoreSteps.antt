@@ -5,7 +5,6 @@ use Rattle.kernel_values.specs.declared.entry.ActorStatus.{ActorStatus}
 use Rattle.kernel_values.specs.declared.entry.Event.{Event}
 use Rattle.kernel_values.specs.declared.entry.Event.TheVariants as event
 use Rattle.kernel_values.specs.declared.state.CoreState.{CoreState}
-use Rattle.kernel_types.specs.Built.{is_built}
 use Rattle.kernel_types.specs.CoreStep.{core_begin, core_resume, status_of}
 use Rattle.kernel_types.specs.Outcome.{Outcome}
 use Rattle.kernel_types.specs.Step.{has_begun_and_goes_on, is_running}
@@ -21,7 +20,7 @@ core_idle_lawful c = list_any has_begun_and_goes_on (core_statuses c) && not (li
 
 -- the step of an event, or nothing where the event is not lawful; the device does nothing
 unfoldable pub core_step : CoreState → Event → Option Outcome
-core_step c (event.Begin actor start call) = (if is_built call then core_begin c actor.0 start call else None)
+core_step c (event.Begin actor start call) = core_begin c actor.0 start call
 core_step c (event.Resume actor start) = core_resume c actor.0 start
 core_step c event.Device = None
 core_step c event.Idle = (if core_idle_lawful c then Some (idle_outcome c) else None)

@@ -10,7 +10,7 @@ use Rattle.virtqueue.specs.Layout.{IsQueue}
 use Rattle.set_laws.specs.Soundness.{NamesAreGiven}
 use Rattle.ns_device.specs.Named.{AreNamed}
 
-pub record Standing (C : Type 0) : Type 0 where
+pub record BridgeValue (C : Type 0) : Type 0 where
   pub core : C
   pub device : Device
 
@@ -50,5 +50,5 @@ device_code =
     (λ p. record { to_normal = p.0; from_normal = p.1.0; entries = p.1.1.0; refusals = p.1.1.1.0; online = p.1.1.1.1.0; broken = p.1.1.1.1.1 })
     (λ _. refl)
 
-abbrev pub standing_code : {C : Type 0} → Coded C → Coded (Standing C)
+abbrev pub standing_code : {C : Type 0} → Coded C → Coded (BridgeValue C)
 standing_code {C} code = code_by (C × Device) (coded× code device_code) (λ s. (s.core, s.device)) (λ p. record { core = p.0; device = p.1 }) (λ _. refl)

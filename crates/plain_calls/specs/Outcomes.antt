@@ -8,27 +8,27 @@ use Rattle.kernel_values.specs.declared.reply.Reply.TheVariants as reply
 use Rattle.kernel_values.specs.declared.entry.Seqs.{Seqs}
 use Rattle.kernel_values.specs.declared.state.CoreState.{CoreState}
 use Rattle.kernel_values.specs.declared.state.WaitOn.TheVariants as wait_on
-use Rattle.plain_calls.specs.declared.told.Told.{Told}
+use Rattle.plain_calls.specs.declared.told.CallOutcome.{CallOutcome}
 use Rattle.kernel_types.specs.Outcome.{Outcome, gives, no_seqs}
 use Rattle.kernel_types.specs.Tables.{install}
 use Rattle.kernel_types.specs.Threads.{waits_on}
 use Rattle.kernel_types.specs.Connects.{Way, connect_by, is_asynchronous}
 
 -- what was told, with the state that it left
-abbrev pub outcome : Told → CoreState → Outcome
+abbrev pub outcome : CallOutcome → CoreState → Outcome
 outcome told c = record { answer = told.answer; seqs = told.seqs; core = c }
 
-abbrev pub outcome_if : Option Told → CoreState → Option Outcome
+abbrev pub outcome_if : Option CallOutcome → CoreState → Option Outcome
 outcome_if None c = None
 outcome_if (Some told) c = Some (outcome told c)
 
-abbrev pub told_gives : Reply → Told
+abbrev pub told_gives : Reply → CallOutcome
 told_gives reply = record { answer = answer.Gives reply; seqs = no_seqs }
 
-abbrev pub told_gives_with : Reply → Seqs → Told
+abbrev pub told_gives_with : Reply → Seqs → CallOutcome
 told_gives_with reply seqs = record { answer = answer.Gives reply; seqs = seqs }
 
-abbrev pub told_refuses : Errno → Told
+abbrev pub told_refuses : Errno → CallOutcome
 told_refuses errno = record { answer = answer.Refuses errno; seqs = no_seqs }
 
 -- a connect whose end has this number and was promised this handle goes through

@@ -12,7 +12,7 @@ use Rattle.kernel_types.specs.History.{step_entry, next_state}
 use Rattle.kernel_types.specs.Step.{statuses}
 use Rattle.kernel_types.specs.Whole.{FollowsScripts}
 use Rattle.report_text.specs.Names.{actor_names}
-use Rattle.runners.specs.Places.{Kept, first_place, most_actors}
+use Rattle.runners.specs.Places.{PlacesFit, first_place, most_actors}
 use Rattle.history_check.specs.declared.actors.Actors.{Actors}
 
 pub record AreAtTheBeginning (scene : SceneValue) (actors : Actors) : Type 0 where
@@ -21,7 +21,7 @@ pub record AreAtTheBeginning (scene : SceneValue) (actors : Actors) : Type 0 whe
   pub places_are : actors.places.items ≡ map first_place (scripts_of scene)
 
 -- each actor of the kernel has a name, a script and a place
-pub record Fits (actors : Actors) (s : State) : Type 0 where
+pub record Matches (actors : Actors) (s : State) : Type 0 where
   pub names : length actors.names ≡ length (statuses s)
   pub scripts : length actors.scripts ≡ length (statuses s)
   pub places : length actors.places.items ≡ length (statuses s)
@@ -54,7 +54,7 @@ pub record SameActors (old new : Actors) : Type 0 where
 
 pub record Renewed (old new : Actors) : Type 0 where
   pub same : SameActors old new
-  pub kept : (entries : List Entry) → Kept old.scripts old.places.items entries → Kept old.scripts new.places.items entries
+  pub kept : (entries : List Entry) → PlacesFit old.scripts old.places.items entries → PlacesFit old.scripts new.places.items entries
 
 -- the entry was made, no other can come of this turn, and the places are those after it
 pub record Took (turn : Turn) (old new : Actors) (s t : State) (made remade : ℕ) (entry : Entry) : Type 0 where
@@ -62,11 +62,11 @@ pub record Took (turn : Turn) (old new : Actors) (s t : State) (made remade : �
   pub step_is : step_entry s entry.event ≡ Some entry
   pub state_is : t ≡ next_state s entry.event
   pub made_is : remade ≡ made + 1
-  pub kept : (entries : List Entry) → Kept old.scripts old.places.items entries → Kept old.scripts new.places.items (entries ++ entry ∷ [])
-  pub only : (entries : List Entry) → Kept old.scripts old.places.items entries → (other : Entry) → CanCome old.scripts s entries turn other → other ≡ entry
+  pub kept : (entries : List Entry) → PlacesFit old.scripts old.places.items entries → PlacesFit old.scripts new.places.items (entries ++ entry ∷ [])
+  pub only : (entries : List Entry) → PlacesFit old.scripts old.places.items entries → (other : Entry) → CanCome old.scripts s entries turn other → other ≡ entry
 
 abbrev pub NoneCan : Turn → Actors → State → Type 0
-NoneCan turn old s = (entries : List Entry) → Kept old.scripts old.places.items entries → (other : Entry) → CanCome old.scripts s entries turn other → ⊥
+NoneCan turn old s = (entries : List Entry) → PlacesFit old.scripts old.places.items entries → (other : Entry) → CanCome old.scripts s entries turn other → ⊥
 
 abbrev pub Came : Turn → Actors → Actors → State → State → ℕ → ℕ → Option Entry → Type 0
 Came turn old new s t made remade (Some entry) = Took turn old new s t made remade entry

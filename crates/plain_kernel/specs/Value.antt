@@ -5,14 +5,14 @@ use Rattle.kernel_values.specs.declared.state.State.{State}
 use Rattle.plain_kernel.specs.Steps.{clientless, whole}
 
 -- the core of a state without clients, the size with which its queues began, and the number of steps made
-pub record Standing : Type 0 where
+pub record PlainValue : Type 0 where
   pub core : CoreState
   pub queue : ℕ
   pub made : ℕ
 
-abbrev pub state_of : Standing → State
+abbrev pub state_of : PlainValue → State
 state_of standing = whole standing.core standing.queue
 
-pub no_client : (standing : Standing) → (state_of standing).world.clients ≡ []
+pub no_client : (standing : PlainValue) → (state_of standing).world.clients ≡ []
 unfolding clientless
 no_client standing = refl

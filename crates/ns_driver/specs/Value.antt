@@ -6,7 +6,7 @@ use Rattle.kernel_values.specs.declared.world.ClientWaitOn.{ClientWaitOn}
 use Rattle.kernel_values.specs.declared.world.Driver.{Driver}
 use Rattle.kernel_types.specs.GuestMemory.{buffer_count}
 
-pub record Standing : Type 0 where
+pub record DriverValue : Type 0 where
   pub driver : Driver
   pub waits : List (Option ClientWaitOn)
 
