@@ -25,7 +25,7 @@ use Rattle.set_laws.specs.Soundness.{NamesAreGiven}
 use Rattle.set_laws.proofs.Soundness.{openings_given, steps_keep_given}
 use Rattle.step_laws.proofs.Leaving.{sweep_leaves}
 use Rattle.step_laws.proofs.TurnLeaving.{LeftIf, begin_leaves, idle_leaves, resume_leaves}
-use Rattle.name_laws.proofs.Known.{Known, apart}
+use Rattle.set_laws.proofs.Known.{Known, apart}
 use Rattle.bridge_laws.specs.Bridged.{NamesItsEntries}
 use Rattle.bridge_laws.proofs.Device.{BridgedLeft, device_bridges}
 use Rattle.bridge_laws.proofs.Entries.{Bridged, nothing_bridged}

@@ -35,7 +35,7 @@ use Rattle.step_laws.specs.Walks.ThreadChange.{app_over, app_started, member_add
 use Rattle.step_laws.proofs.Invariants.{Invariant, holds_along}
 use Rattle.step_laws.proofs.Rows.{row_keeps}
 use Rattle.count_laws.specs.Thinning.{NamedThere}
-use Rattle.name_laws.proofs.Known.{entry_known}
+use Rattle.set_laws.proofs.Known.{entry_known}
 use Rattle.name_laws.proofs.There.{There, apart_there, change_there, histories_there, resumed_there, served_there}
 use Rattle.fit_laws.specs.Fitting.{FittingCore}
 use Rattle.fit_laws.specs.Sweeps.{BeforeSweep, BeforeSweeps, IsReady}

@@ -41,8 +41,8 @@ use Rattle.step_laws.proofs.There.{there_changed}
 use Rattle.count_laws.specs.Thinning.{NamedThere}
 use Rattle.count_laws.proofs.Dropping.{left_names}
 use Rattle.count_laws.proofs.Holding.{counted_in, someone}
-use Rattle.name_laws.proofs.Changes.{NewCalled, NewKnown, bridging_known, call_known, idled_known, running_known, small_known, started_known, unbridged_known}
-use Rattle.name_laws.proofs.Known.{Known, Knows, acted, apart, together, weaker}
+use Rattle.set_laws.proofs.KnownChanges.{NewCalled, NewKnown, bridging_known, call_known, idled_known, running_known, small_known, started_known, unbridged_known}
+use Rattle.set_laws.proofs.Known.{Known, Knows, acted, apart, together, weaker}
 
 abbrev pub There : List Object → ℕ → Type 0
 There objects x = is_there objects x ≡ true

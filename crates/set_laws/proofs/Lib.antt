@@ -6,6 +6,8 @@ pub mod Deepening
 pub mod Circles
 pub mod Looking
 pub mod Lists
+pub mod Known
+pub mod KnownChanges
 pub mod Naming
 pub mod Soundness
 pub mod Bridging

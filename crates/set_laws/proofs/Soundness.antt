@@ -33,7 +33,9 @@ use Rattle.set_laws.proofs.Circles.{no_circle, openings_short}
 use Rattle.set_laws.proofs.Counting.{first_or_later}
 use Rattle.set_laws.proofs.Deepening.{steps_keep_short}
 use Rattle.set_laws.proofs.Lists.{IfThere, all_appended, all_first, all_flat, all_last, all_mapped, all_unflat, all_unmapped, all_weaker}
-use Rattle.set_laws.proofs.Naming.{BodyBelow, Given, MembersBelow, NamesBelow, TableBelow, set_named, table_named}
+use Rattle.set_laws.proofs.Known.{KnowsMembers, KnowsNames, KnowsTable, set_known, table_known}
+use Rattle.set_laws.proofs.Known.{apart as apart_known, together as together_known}
+use Rattle.set_laws.proofs.Naming.{Given}
 use Rattle.set_laws.proofs.NamingChanges.{walk_names}
 use Rattle.step_laws.proofs.Steps.{steps_walk}
 
@@ -43,79 +45,41 @@ module _ (c : CoreState) where
   abbrev IsGiven : Name → Type 0
   IsGiven name = name.object < c.next
 
-  abbrev in_tables : List Name
-  in_tables = flat_map table_names c.apps
-
-  abbrev in_bridge : List Name
-  in_bridge = map root c.bridged
-
-  abbrev in_waits : List Name
-  in_waits = flat_map wait_names c.threads
-
-  abbrev in_objects : List Name
-  in_objects = flat_map object_names c.objects
-
   pub apart : NamesAreGiven c → Given c
-  unfolding naming
-  apart given =
-      let all : AllByRecursion IsGiven (naming c) = recursion_from_All IsGiven (naming c) given in
-      let roots : AllByRecursion IsGiven (in_tables ++ in_bridge ++ in_waits) = all_first IsGiven (in_tables ++ in_bridge ++ in_waits) in_objects all in
-      let first : AllByRecursion IsGiven (in_tables ++ in_bridge) = all_first IsGiven (in_tables ++ in_bridge) in_waits roots in
-      record {
-        tables = all_weaker (λ (a : Application). AllByRecursion IsGiven (table_names a)) (λ (a : Application). TableBelow c.next a.table)
-            (λ a names. all_unmapped IsGiven (λ (entry : TableEntry). root entry.object) a.table names) c.apps
-            (all_unflat IsGiven table_names c.apps (all_first IsGiven in_tables in_bridge first));
-        bridged = all_unmapped IsGiven root c.bridged (all_last IsGiven in_tables in_bridge first);
-        waits = all_unflat IsGiven wait_names c.threads (all_last IsGiven (in_tables ++ in_bridge) in_waits roots);
-        objects = all_weaker (λ (o : Object). AllByRecursion IsGiven (object_names o)) (λ (o : Object). BodyBelow c.next o.body)
-            (λ o names. all_unmapped IsGiven (held_by o.id) (named_in o.body) names) c.objects
-            (all_unflat IsGiven object_names c.objects (all_last IsGiven (in_tables ++ in_bridge ++ in_waits) in_objects all));
-      }
+  apart given = apart_known (λ x. x < c.next) c (recursion_from_All IsGiven (naming c) given)
 
   pub together : Given c → NamesAreGiven c
-  unfolding naming
-  together k =
-      let tables : AllByRecursion IsGiven in_tables =
-      all_flat IsGiven table_names c.apps (all_weaker (λ (a : Application). TableBelow c.next a.table) (λ (a : Application). AllByRecursion IsGiven (table_names a))
-      (λ a below. all_mapped (λ (entry : TableEntry). entry.object < c.next) IsGiven (λ entry. root entry.object) (λ entry is. is) a.table below) c.apps k.tables) in
-      let bridge : AllByRecursion IsGiven in_bridge = all_mapped (λ (x : ℕ). x < c.next) IsGiven root (λ x is. is) c.bridged k.bridged in
-      let waits : AllByRecursion IsGiven in_waits = all_flat IsGiven wait_names c.threads k.waits in
-      let objects : AllByRecursion IsGiven in_objects =
-      all_flat IsGiven object_names c.objects (all_weaker (λ (o : Object). BodyBelow c.next o.body) (λ (o : Object). AllByRecursion IsGiven (object_names o))
-      (λ o below. all_mapped (λ (x : ℕ). x < c.next) IsGiven (held_by o.id) (λ x is. is) (named_in o.body) below) c.objects k.objects) in
-      All-from_recursion IsGiven (naming c)
-      (all_appended IsGiven (in_tables ++ in_bridge ++ in_waits) in_objects
-      (all_appended IsGiven (in_tables ++ in_bridge) in_waits (all_appended IsGiven in_tables in_bridge tables bridge) waits) objects)
+  together k = All-from_recursion IsGiven (naming c) (together_known (λ x. x < c.next) c k)
 
 -- What chains of sets need of it.
 
-in_members : (n b : ℕ) (ms : List Member) → MembersBelow n ms → is_in (map (λ member. member.object) ms) b ≡ true → b < n
+in_members : (n b : ℕ) (ms : List Member) → KnowsMembers (λ x. x < n) ms → is_in (map (λ member. member.object) ms) b ≡ true → b < n
 in_members n b [] all is = absurd (cc)
 in_members n b (m ∷ ms) all is =
     first_or_later m.object (map (λ member. member.object) ms) b (b < n) is (λ same. omega (arith, same, all.0)) (λ more. in_members n b ms all.1 more)
 
-in_set : (n b : ℕ) (o : Option HandleSet) → IfThere (λ (set : HandleSet). MembersBelow n set.members) o → is_in (members_of o) b ≡ true → b < n
+in_set : (n b : ℕ) (o : Option HandleSet) → IfThere (λ (set : HandleSet). KnowsMembers (λ x. x < n) set.members) o → is_in (members_of o) b ≡ true → b < n
 in_set n b None all is = absurd (cc)
 in_set n b (Some set) all is = in_members n b set.members all is
 
 pub given_numbers : (c : CoreState) → Given c → NamesGivenNumbers c
 given_numbers c k = record {
-  entries = λ app handle entry is. all_find (λ (e : TableEntry). e.object < c.next) (λ e. e.handle == handle) (table_of c app) (table_named c.next c k app) entry is;
-  members = λ set member holds. in_set c.next member (set_of c.objects set) (set_named c.next c k set) holds;
+  entries = λ app handle entry is. all_find (λ (e : TableEntry). e.object < c.next) (λ e. e.handle == handle) (table_of c app) (table_known (λ x. x < c.next) c k app) entry is;
+  members = λ set member holds. in_set c.next member (set_of c.objects set) (set_known (λ x. x < c.next) c k set) holds;
 }
 
 -- Openings.
 
-opened_tables : (apps : List App) → AllByRecursion (λ (a : Application). TableBelow 0 a.table) (map opening_app apps)
+opened_tables : (apps : List App) → AllByRecursion (λ (a : Application). KnowsTable (λ x. x < 0) a.table) (map opening_app apps)
 opened_tables [] = tt
 opened_tables (app ∷ apps) = (tt, opened_tables apps)
 
-opened_activity : (manifest : Manifest) → NamesBelow 0 (activity_names (opening_activity manifest))
+opened_activity : (manifest : Manifest) → KnowsNames (λ x. x < 0) (activity_names (opening_activity manifest))
 opened_activity manifest =
-    elim manifest.deferred as (λ b. NamesBelow 0 (activity_names (cond b activity.Off (activity.Running 1)))) [ true ↦ tt | false ↦ tt ]
+    elim manifest.deferred as (λ b. KnowsNames (λ x. x < 0) (activity_names (cond b activity.Off (activity.Running 1)))) [ true ↦ tt | false ↦ tt ]
 
 abbrev WaitsForNothing : Thread → Type 0
-WaitsForNothing t = NamesBelow 0 (activity_names t.activity)
+WaitsForNothing t = KnowsNames (λ x. x < 0) (activity_names t.activity)
 
 opened_scripts : {X : Type 0} (place : ℕ) (manifest : Manifest) (scripts : List X)
     → AllByRecursion WaitsForNothing (map (λ script. record { app = place; activity = opening_activity manifest }) scripts)

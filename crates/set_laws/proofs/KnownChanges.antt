@@ -48,7 +48,7 @@ use Rattle.step_laws.specs.SmallChanges.SmallChange.{cookie_changed, entry_remov
 use Rattle.step_laws.specs.Walks.{Awaits, ThreadChange, after_thread, timeout_of}
 use Rattle.step_laws.specs.Walks.Awaits.{for_any, for_connect, for_object}
 use Rattle.step_laws.specs.Walks.ThreadChange.{app_over, app_started, member_added, set_made, thread_over, wait_begun}
-use Rattle.name_laws.proofs.Known.{Known, Knows, KnowsBody, KnowsMembers, KnowsMessages, KnowsNames, KnowsTable, acted, added_known, changed_one, end_known, entry_known, installed_known, installs, on_end_known, on_memory_known, on_port_known, on_set_known, port_known, set_known, tabled}
+use Rattle.set_laws.proofs.Known.{Known, Knows, KnowsBody, KnowsMembers, KnowsMessages, KnowsNames, KnowsTable, acted, added_known, changed_one, end_known, entry_known, installed_known, installs, on_end_known, on_memory_known, on_port_known, on_set_known, port_known, set_known, tabled}
 
 -- the numbers of objects that a change makes and names
 abbrev pub NewKnown : (P : ℕ → Type 0) (by : Option ℕ) (c : CoreState) → SmallChange by c → Type 0
