@@ -14,12 +14,12 @@ use Rattle.kernel_types.specs.Facts.{is_at_end, status_at}
 use Rattle.kernel_types.specs.Step.{Stepped, step, statuses, device_has_work, idle_lawful}
 use Rattle.kernel_types.specs.Turns.{Run, Outturn, ran, refused, grown, event_of, run_event, run_turn, run_from, run_by, opening_run, takes_turn, actors_in_turn, turn_or_kernel, next_turn, last_after, serial_from, serial_turns, history_limit}
 use Rattle.run_laws.proofs.Counting.{actors_stay}
-use Rattle.run_laws.proofs.SerialTurns.{from_turn, from_refused, serial_step, serial_over, serial_full, turn_grows}
+use Rattle.run_laws.proofs.SerialTurns.{from_turn, from_refused, same_ran, serial_step, serial_over, serial_full, turn_grows}
 use Rattle.run_laws.proofs.Ordering.{first_low, whole_at_end}
 use Rattle.run_laws.specs.Order.{IsBelow}
-use Rattle.run_laws.specs.Progress.{CanBeTaken, IsWholeOrFull}
+use Rattle.run_laws.specs.Progress.{CanBeTaken, IsWholeOrFull, MayTake}
 use Rattle.run_laws.proofs.Opening.{placed_at_opening}
-use Rattle.run_laws.proofs.Turning.{AtScripts, Taken, actor_taken, kernel_taken, turn_keeps}
+use Rattle.run_laws.proofs.Turning.{AtScripts, Taken, actor_taken, device_taken, idle_taken, kernel_taken, turn_keeps}
 
 -- The next turn of the serial order is taken.
 
@@ -81,9 +81,6 @@ event_counts run next (Some e) is = step_counts run next e (step run.state e) re
 
 turn_counts : (scripts : List (List Command)) (run next : Run) (t : Turn) → run_turn step scripts run t ≡ Some next → length (statuses next.state) ≡ length (statuses run.state)
 turn_counts scripts run next t is = event_counts run next (event_of scripts run t) is
-
-same_ran : (run result : Run) → ran run ≡ ran result → run ≡ result
-same_ran run result is = cc
 
 -- The serial run.
 
@@ -155,10 +152,13 @@ placed_after scene turns run lawful is = turns_keep (scripts_of scene) 0 (openin
 can_be_taken : (scene : SceneValue) (run : Run) (t : Turn) → Taken (scripts_of scene) run t → CanBeTaken scene run t
 can_be_taken scene run t taken = (taken.next, taken.took)
 
-pub actor_takes : (scene : SceneValue) (turns : List Turn) (run : Run) (actor : ℕ) → IsLawfulScene scene → run_by scene turns ≡ ran run
-    → takes_turn run.state actor ≡ true → CanBeTaken scene run (turn.Actor actor)
-actor_takes scene turns run actor lawful is takes =
-    can_be_taken scene run (turn.Actor actor) (actor_taken (scripts_of scene) run actor (placed_after scene turns run lawful is) takes)
+allowed_taken : (scripts : List (List Command)) (run : Run) (t : Turn) → AtScripts scripts run → MayTake run.state t → Taken scripts run t
+allowed_taken scripts run (turn.Actor actor) placed may = actor_taken scripts run actor placed may
+allowed_taken scripts run turn.Device placed may = device_taken scripts run placed may
+allowed_taken scripts run turn.Idle placed may = idle_taken scripts run placed may
+
+pub turn_takes : (scene : SceneValue) (turns : List Turn) (run : Run) (t : Turn) → IsLawfulScene scene → run_by scene turns ≡ ran run → MayTake run.state t → CanBeTaken scene run t
+turn_takes scene turns run t lawful is may = can_be_taken scene run t (allowed_taken (scripts_of scene) run t (placed_after scene turns run lawful is) may)
 
 pub next_takes : (scene : SceneValue) (turns : List Turn) (run : Run) (last : Option ℕ) (next : Turn) → IsLawfulScene scene → run_by scene turns ≡ ran run
     → next_turn run.state last ≡ Some next → CanBeTaken scene run next

@@ -3,15 +3,14 @@
 ghost use Rattle.std.specs.Prelude.{◌≡◌, ℕ, List, Option, Some, true};
 ghost use Rattle.kernel_values.specs.SceneLaw.{SceneValue, IsLawfulScene};
 ghost use Rattle.kernel_values.specs.declared.scene.Turn.{Turn};
-ghost use Rattle.kernel_values.specs.declared.scene.Turn.TheVariants as turn;
-ghost use Rattle.kernel_types.specs.Turns.{Run, ran, run_by, takes_turn, next_turn, serial_turns};
-ghost use Rattle.run_laws.specs.Progress.{CanBeTaken, IsWholeOrFull};
+ghost use Rattle.kernel_types.specs.Turns.{Run, ran, run_by, next_turn, serial_turns};
+ghost use Rattle.run_laws.specs.Progress.{CanBeTaken, IsWholeOrFull, MayTake};
 
-/// After any turns of a scene an actor that runs, or that waits and may move, can
-/// take a turn. So a thread or a client that runs always has a next call, and the kernel has a body for it.
-pub fn actors_can_take_their_turns()
-    ensures { (scene : SceneValue) (turns : List Turn) (run : Run) (actor : ℕ) → IsLawfulScene scene → run_by scene turns ≡ ran run
-        → takes_turn run.state actor ≡ true → CanBeTaken scene run (turn.Actor actor) }
+/// After any turns of a scene each turn that the state allows can be taken: that of an actor which runs, or waits
+/// and may move, the device's where it has work, and Idle's where it is lawful. So a thread or a client that runs
+/// always has a next call, and the kernel has a body for it.
+pub fn allowed_turns_can_be_taken()
+    ensures { (scene : SceneValue) (turns : List Turn) (run : Run) (due : Turn) → IsLawfulScene scene → run_by scene turns ≡ ran run → MayTake run.state due → CanBeTaken scene run due }
 {}
 
 /// After any turns of a scene the turn that the serial order names next can be
