@@ -1,0 +1,11 @@
+mod Looking
+mod Namers
+mod Marking
+mod Surviving
+mod Lone
+mod Cutting
+mod Keeping
+mod Breaking
+mod Folding
+mod Answering
+mod Histories
