@@ -4,3 +4,4 @@ pub mod Unknown
 pub mod Walks
 pub mod Agreement
 pub mod Parsed
+pub mod Numerals

@@ -12,11 +12,11 @@ use Rattle.clap.specs.Kinds.{Kinds, IsAmong}
 use Rattle.clap.specs.declared.error.kind.ErrorKind.{ErrorKind}
 use Rattle.command_line.specs.declared.command.Command.{Command}
 use Rattle.command_line.specs.Commands.{judged, command_in}
-use Rattle.command_line.specs.Program.{trusty_app, form_id, command_id}
+use Rattle.command_line.specs.Program.{trusty_app, form_id, words_id}
 use Rattle.command_line.proofs.Walks.{Agrees}
 use Rattle.command_line.proofs.Agreement.{clap_agrees}
-use Rattle.clap.specs.Walk.{Text, Row, row_of, rows_of, first_of}
-use Rattle.clap.specs.Matches.{first_value}
+use Rattle.clap.specs.Walk.{Text, Row, row_of, rows_of, first_of, all_of}
+use Rattle.clap.specs.Matches.{first_value, matched_of, raw_values}
 use Rattle.clap.specs.declared.parser.matches.Found.{Found}
 
 -- words are UTF-8
@@ -49,6 +49,26 @@ first_among id (e ∷ es) = picked (bytes_eq e.0.now id) e _ _ (first_among id e
 pub first_value_is : (found : Found) (id : Text) → first_value found id ≡ first_of id (rows_of found)
 first_value_is found id = first_among id found.entries.items
 
+-- all values in place of the first
+
+abbrev all_in_entry : Option Entry → Option (List Text)
+all_in_entry entry = option_map raw_values (option_map (λ e. e.1) entry)
+
+abbrev all_in_row : Option Row → Option (List Text)
+all_in_row row = option_map (λ r. r.values) row
+
+all_picked : (here : Bool) (e : Entry) (later : Option Entry) (later_row : Option Row) → all_in_entry later ≡ all_in_row later_row
+    → all_in_entry (cond here (Some e) later) ≡ all_in_row (cond here (Some (row_of e)) later_row)
+all_picked true e later later_row same = refl
+all_picked false e later later_row same = same
+
+all_among : (id : Text) (es : List Entry) → all_in_entry (find (λ e. bytes_eq e.0.now id) es) ≡ all_in_row (find (λ r. bytes_eq r.id id) (map row_of es))
+all_among id [] = refl
+all_among id (e ∷ es) = all_picked (bytes_eq e.0.now id) e _ _ (all_among id es)
+
+pub all_values_are : (found : Found) (id : Text) → option_map raw_values (matched_of found id) ≡ all_of id (rows_of found)
+all_values_are found id = all_among id found.entries.items
+
 refused : (kind : ErrorKind) (kinds : Kinds) (found : List Row) (command : Option Command) → IsAmong kind kinds → Agrees kinds found command → command ≡ None
 refused kind [] found command fault agreed = absurd fault
 refused kind (first ∷ kinds) found command fault agreed = agreed
@@ -59,11 +79,11 @@ module _ (words : List (String Global)) (app : App) (is : app ≡ trusty_app) wh
       (sym is) (clap_agrees (map string_bytes words) (words_are_utf8 words))
 
   pub given_is : (found : Found) → fault_of app (map string_bytes words) ≡ [] → rows_of found ≡ matches_of app (map string_bytes words)
-      → command_in (map string_bytes words) ≡ judged (first_value found form_id) (first_value found command_id)
+      → command_in (map string_bytes words) ≡ judged (first_value found form_id) (option_map raw_values (matched_of found words_id))
   given_is found free same =
-      let as_found : command_in (map string_bytes words) ≡ judged (first_of form_id (matches_of app (map string_bytes words))) (first_of command_id (matches_of app (map string_bytes words)))
+      let as_found : command_in (map string_bytes words) ≡ judged (first_of form_id (matches_of app (map string_bytes words))) (all_of words_id (matches_of app (map string_bytes words)))
       = subst (λ kinds. Agrees kinds (matches_of app (map string_bytes words)) (command_in (map string_bytes words))) free agrees in
-      as_found ∙ ap₂ judged (sym (first_value_is found form_id ∙ ap (first_of form_id) same)) (sym (first_value_is found command_id ∙ ap (first_of command_id) same))
+      as_found ∙ ap₂ judged (sym (first_value_is found form_id ∙ ap (first_of form_id) same)) (sym (all_values_are found words_id ∙ ap (all_of words_id) same))
 
   pub nothing_given : (kind : ErrorKind) → IsAmong kind (fault_of app (map string_bytes words)) → command_in (map string_bytes words) ≡ None
   nothing_given kind fault = refused kind _ _ _ fault agrees

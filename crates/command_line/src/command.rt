@@ -1,12 +1,10 @@
 //! The command that words are.
 
-ghost use Rattle.std.specs.Prelude.{◌≡◌, IfOk, map, option_map, string_bytes};
-ghost use Rattle.command_line.specs.Commands.{form_named, command_named, command_alone, command_with, command_in, listed};
+ghost use Rattle.std.specs.Prelude.{◌≡◌, ◌≤◌, IfOk, map, option_map};
+ghost use Rattle.command_line.specs.Commands.{form_named, run_named, made_by, command_named, alone_named, command_alone, judged, MakesFew};
 
-use crate::words::read_words;
-use kernel_values::NoMemory;
+use crate::numbers::number_within;
 use report_text::Form;
-use std::alloc::Global;
 
 /// What the program is to do, and in which form it reports on a run.
 #[derive(Clone, Copy, PartialEq, Eq, Debug)]
@@ -17,9 +15,20 @@ pub enum Command {
     Replay(Form),
     /// A thread for each actor.
     Run(Form),
+    /// The scene with so many commands that a seed gives, in the order of `Serial`.
+    Gen { seed: u64, count: u32, form: Form },
     /// Whether a report is that of a history of its scene.
     Check,
 }
+
+/// The digits of a seed.
+const SEED_DIGITS: usize = 20;
+
+/// The digits of a number of commands.
+const COUNT_DIGITS: usize = 5;
+
+/// The most commands that a scene is made of.
+const MOST_COMMANDS: u64 = 10_000;
 
 fn form_named(name: &str) -> Option<Form>
     ensures { result ≡ form_named name.now }
@@ -33,8 +42,9 @@ fn form_named(name: &str) -> Option<Form>
     }
 }
 
-fn command_named(name: &str, form: Form) -> Option<Command>
-    ensures { result ≡ command_named name.now form }
+fn run_named(name: &str, form: Form) -> Option<Command>
+    ensures exact { result ≡ run_named name.now form }
+    ensures few { MakesFew result }
 {
     match name {
         "serial" => Some(Command::Serial(form)),
@@ -44,38 +54,62 @@ fn command_named(name: &str, form: Form) -> Option<Command>
     }
 }
 
-// The command where no form is given.
-fn command_alone(name: &str) -> Option<Command>
-    ensures { result ≡ command_alone name.now }
+fn made_by(name: &str, seed: &str, count: &str, form: Form) -> Option<Command>
+    ensures exact { result ≡ made_by name.now seed.now count.now form }
+    ensures few { MakesFew result }
+{
+    match name {
+        "gen" => Some(Command::Gen {
+            seed: number_within(seed, SEED_DIGITS, 0, u64::MAX)?,
+            count: number_within(count, COUNT_DIGITS, 1, MOST_COMMANDS)? as u32,
+            form,
+        }),
+        _ => None,
+    }
+}
+
+// The command with this form.
+fn command_named(words: &[&str], form: Form) -> Option<Command>
+    ensures exact { result ≡ command_named (map (λ word. word.now) words.now) form }
+    ensures few { MakesFew result }
+{
+    match words {
+        [name] => run_named(name, form),
+        [name, seed, count] => made_by(name, seed, count, form),
+        _ => None,
+    }
+}
+
+// The command that is one word, where no form is given.
+fn alone_named(name: &str) -> Option<Command>
+    ensures exact { result ≡ alone_named name.now }
+    ensures few { MakesFew result }
 {
     match name {
         "check" => Some(Command::Check),
-        _ => command_named(name, Form::History),
+        _ => run_named(name, Form::History),
     }
 }
 
-fn command_with(name: &str, form: Option<&str>) -> Option<Command>
-    ensures { result ≡ command_with (listed (option_map (λ said. said.now) form.entry)) name.now }
+// The command where no form is given.
+fn command_alone(words: &[&str]) -> Option<Command>
+    ensures exact { result ≡ command_alone (map (λ word. word.now) words.now) }
+    ensures few { MakesFew result }
 {
+    match words {
+        [name] => alone_named(name),
+        _ => command_named(words, Form::Summary),
+    }
+}
+
+/// The command that a form and words are, where they are given.
+pub fn judged(form: Option<&str>, words: Option<&[&str]>) -> Option<Command>
+    ensures exact { result ≡ judged (option_map (λ said. said.now) form.entry) (option_map (λ said. map (λ word. word.now) said.now) words.entry) }
+    ensures few { MakesFew result }
+{
+    let words = words?;
     match form {
-        None => command_alone(name),
-        Some(form) => command_named(name, form_named(form)?),
+        None => command_alone(words),
+        Some(form) => command_named(words, form_named(form)?),
     }
-}
-
-/// The command that the words after the program's name are; `None` where they are none.
-///
-/// Before a word `--`, `--form` takes the next word as the form, whatever that word is, and `--form=V`
-/// gives it too; it is given at most once. Every other word there that begins with `-` and is longer than
-/// one byte makes the words no command. What is left is one word, the command's name. `check` takes no form.
-pub fn command_of(alloc: Global, words: &[String]) -> Result<Option<Command>, NoMemory>
-    ensures { IfOk result (λ command. command ≡ command_in (map string_bytes words.now)) }
-{
-    let Some(given) = read_words(alloc, words)? else {
-        return Ok(None);
-    };
-    Ok(match given.command {
-        None => None,
-        Some(name) => command_with(name, given.form),
-    })
 }

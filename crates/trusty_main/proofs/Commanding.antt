@@ -1,5 +1,5 @@
 -- What is told of a command: of those without threads, and of a run by threads.
-use Rattle.std.proofs.Common.{◌≡◌, ◌≢◌, ◌⊎◌, ◌≤◌, ℕ, Bool, true, false, List, Option, Some, None, IfSome, Result, Ok, Err, refl, sym, ap, subst, ◌∙◌, length, inl, inr, IsTrue, ◌++◌, append-nil, le_refl, if◌then◌else◌}
+use Rattle.std.proofs.Common.{◌≡◌, ◌≢◌, ◌⊎◌, ◌≤◌, ℕ, Bool, true, false, List, [], Option, Some, None, IfSome, Result, Ok, Err, refl, sym, ap, subst, ◌∙◌, length, inl, inr, IsTrue, ◌++◌, append-nil, le_refl, if◌then◌else◌, arith, length-append}
 use Rattle.std.specs.Io.KnownBytes.{Appends, IsAtEnd, Keeps}
 use Rattle.std.proofs.KnownBytes.{Keeps-refl}
 use Rattle.command_line.specs.declared.command.Command.{Command}
@@ -13,24 +13,28 @@ use Rattle.kernel_types.specs.Turns.{history_limit}
 use Rattle.kernel_log.specs.Logs.{Log}
 use Rattle.kernel_values.specs.SceneLaw.{SceneValue}
 use Rattle.outside_io.specs.Faults.{Rose}
-use Rattle.outside_io.specs.Reading.{ReadsWhole}
+use Rattle.outside_io.specs.Reading.{ReadsWhole, TakesMore}
 use Rattle.outside_io.specs.Writing.{AppendsFront}
 use Rattle.report_text.specs.Forms.{report}
 use Rattle.report_text.specs.declared.form.Form.{Form}
 use Rattle.runners.specs.Runs.{Carries, IsRunToEnd, IsRunToLimit, origin_of}
+use Rattle.scene_generator.specs.Generated.{generated}
 use Rattle.scene_reader.specs.Whole.{scene_of}
 use Rattle.script_lines.specs.declared.fault.SceneFault.{SceneFault}
-use Rattle.trusty_main.specs.Answers.{HasScene, IsEndless, IsReportOf, ReportsRun, Tells, TellsWhole}
-use Rattle.trusty_main.specs.Commanded.{AppendsSomeOf, GetsDueOf, HasCommand, IsDue, IsDueOfCheck, IsDueOfScene, IsDueOfThreads, IsReported, AppendsFrontOf, TellsSome, ToldOf, form_of, scene_text}
+use Rattle.trusty_main.specs.Answers.{HasScene, IsEndless, IsReportOf, ReportsRun, Tells, TellsLong, TellsWhole}
+use Rattle.trusty_main.specs.Commanded.{AppendsFrontOf, AppendsSomeOf, Does, DoneBy, EndlessBy, GetsDueOf, HasCommand, IsDue, IsDueOfCheck, IsDueOfScene, IsDueOfThreads, IsReported, OfInput, ReportedBy, TellsLongOf, TellsSome, ToldBy, ToldOf, Unread, form_of}
 use Rattle.trusty_main.specs.Due.{Due, due_of_run}
-use Rattle.trusty_main.specs.Plans.{command_by, outturn_of, plain_of, plan_of}
+use Rattle.trusty_main.specs.Plans.{EndsInput, MakesFew, as_command, command_by, command_for, input_of, outturn_of, plain_of, plan_of, scene_by}
 use Rattle.trusty_main.specs.Texts.{fault_text, no_text, too_long_text, yes_text}
 use Rattle.trusty_main.specs.declared.plan.Order.{Order}
 use Rattle.trusty_main.specs.declared.plan.Order.TheVariants as order
 use Rattle.trusty_main.specs.declared.plan.Plan.{Plan}
+use Rattle.trusty_main.specs.declared.plan.Purpose.{Purpose}
+use Rattle.trusty_main.specs.declared.plan.Purpose.TheVariants as purpose
 use Rattle.trusty_main.specs.declared.status.Status.{Status}
 use Rattle.trusty_main.specs.declared.status.Status.TheVariants as status
 use Rattle.trusty_main.proofs.Headline.{is_history}
+use Rattle.trusty_main.proofs.Reporting.{long_failed, long_told, long_unread, within_limit}
 
 -- What is told of an input that was read whole.
 
@@ -56,30 +60,6 @@ status_told due old new before now status.ReadFault tells written room = absurd 
 status_told due old new before now status.InputTooLong tells written room = absurd (tells.no_long_input refl)
 status_told due old new before now status.WriteFault tells written room = absurd (written refl)
 status_told due old new before now status.NoMemory tells written room = absurd (room refl)
-
--- a front of what is due of the input
-
-abbrev pub Front : Command → (old new : Option (List ℕ)) → List ℕ → Type 0
-Front asked old new input = (due : Due) × IsDue asked input due × AppendsFront old new due.text
-
-abbrev pub HasStatus : Command → Status → List ℕ → Type 0
-HasStatus asked result input = (due : Due) × IsDue asked input due × (result ≡ due.status)
-
-front_of : (asked : Command) (input : List ℕ) (old new : Option (List ℕ)) (limit : ℕ) (left after : Option (List ℕ)) → ReadsWhole limit left after input
-    → Front asked old new input → AppendsFrontOf (Some asked) left old new
-front_of asked input old new limit None after read front = tt
-front_of asked input old new limit (Some all) after read front = told_by (Front asked old new) limit (Some all) after input read front
-
-memory_of : (asked : Command) (input : List ℕ) (old new : Option (List ℕ)) (limit : ℕ) (left after : Option (List ℕ)) → ReadsWhole limit left after input
-    → Keeps old new ⊎ Front asked old new input → AppendsSomeOf (Some asked) left old new
-memory_of asked input old new limit left after read (inl kept) = inl kept
-memory_of asked input old new limit left after read (inr front) = inr (front_of asked input old new limit left after read front)
-
-gets_of : (asked : Command) (input : List ℕ) (result : Status) (limit : ℕ) (left after : Option (List ℕ)) → ReadsWhole limit left after input
-    → (result ≢ status.WriteFault → result ≢ status.NoMemory → HasStatus asked result input) → GetsDueOf (Some asked) left limit result
-gets_of asked input result limit None after read gets = tt
-gets_of asked input result limit (Some all) after read gets = λ within no_fault written room.
-    told_by (HasStatus asked result) limit (Some all) after input read (gets written room)
 
 module _ (asked : Command) (input : List ℕ) (old new : Option (List ℕ)) (before now : ℕ) (result : Status) where
   told_here : Gets asked input old new before now result → result ≡ status.Done → ToldOf asked input status.Done old new
@@ -117,62 +97,228 @@ module _ (asked : Command) (input : List ℕ) (old new : Option (List ℕ)) (bef
   gets_here (inl (due, is_due, tells)) written room = (due, is_due, status_told due old new before now result tells written room)
   gets_here (inr untold) written room = absurd (room untold.0)
 
-  pub run_later : Gets asked input old new before now result → before ≤ now
-  run_later (inl (due, is_due, tells)) = tells.later
-  run_later (inr untold) = subst (λ n. before ≤ n) (sym untold.2) (le_refl before)
+  later_here : Gets asked input old new before now result → before ≤ now
+  later_here (inl (due, is_due, tells)) = tells.later
+  later_here (inr untold) = subst (λ n. before ≤ n) (sym untold.2) (le_refl before)
 
-  pub run_no_usage : Gets asked input old new before now result → result ≢ status.Usage
-  run_no_usage (inl (due, is_due, tells)) = tells.no_usage
-  run_no_usage (inr untold) = λ is. let bad : result ≡ status.NoMemory = untold.0 in absurd (cc)
+  no_usage_here : Gets asked input old new before now result → result ≢ status.Usage
+  no_usage_here (inl (due, is_due, tells)) = tells.no_usage
+  no_usage_here (inr untold) = λ is. let bad : result ≡ status.NoMemory = untold.0 in absurd (cc)
 
-  pub run_no_fault : Gets asked input old new before now result → (result ≢ status.ReadFault) × (result ≢ status.InputTooLong)
-  run_no_fault (inl (due, is_due, tells)) = (tells.no_read_fault, tells.no_long_input)
-  run_no_fault (inr untold) = (λ is. let bad : result ≡ status.NoMemory = untold.0 in absurd (cc), λ is. let bad : result ≡ status.NoMemory = untold.0 in absurd (cc))
+  pub no_fault_here : Gets asked input old new before now result → (result ≢ status.ReadFault) × (result ≢ status.InputTooLong)
+  no_fault_here (inl (due, is_due, tells)) = (tells.no_read_fault, tells.no_long_input)
+  no_fault_here (inr untold) = (λ is. let bad : result ≡ status.NoMemory = untold.0 in absurd (cc), λ is. let bad : result ≡ status.NoMemory = untold.0 in absurd (cc))
 
-  module _ (limit : ℕ) (left after : Option (List ℕ)) (read : ReadsWhole limit left after input) where
-    pub run_told : Gets asked input old new before now result → result ≡ status.Done → IfSome left (λ input. ToldOf asked input status.Done old new)
-    run_told gets is = told_by _ limit left after input read (told_here gets is)
+  -- what holds of the input holds of what the command reads
+  module _ (limit : ℕ) (left after : Option (List ℕ)) (by : (P : List ℕ → Type 0) → P input → OfInput asked left P) (ends : EndsInput asked after)
+      (long : TellsLongOf (Some asked) left limit result) where
+    some_of : Keeps old new ⊎ ((due : Due) × IsDue asked input due × AppendsFront old new due.text) → AppendsSomeOf (Some asked) left old new
+    some_of (inl kept) = inl kept
+    some_of (inr front) = inr (by (λ input. (due : Due) × IsDue asked input due × AppendsFront old new due.text) front)
 
-    pub run_refused : Gets asked input old new before now result → result ≡ status.InputRefused
-        → IfSome left (λ input. ToldOf asked input status.InputRefused old new) × IsAtEnd after
-    run_refused gets is = (told_by _ limit left after input read (refused_here gets is), read.at_end)
+    pub does : Gets asked input old new before now result → Does asked limit left after old new before now result
+    does gets = record {
+      told = λ is. (by (λ input. ToldOf asked input status.Done old new) (told_here gets is), ends);
+      input_refused = λ is. (by (λ input. ToldOf asked input status.InputRefused old new) (refused_here gets is), ends);
+      turn_refused = λ is. (by (λ input. ToldOf asked input status.TurnRefused old new) (turn_here gets is), ends);
+      history_refused = λ is. (by (λ input. ToldOf asked input status.HistoryRefused old new) (history_here gets is), ends);
+      run_too_long = λ is. (by (λ input. ToldOf asked input status.RunTooLong old new) (endless_here gets is), ends);
+      no_usage = no_usage_here gets;
+      write_fault = λ is. ((fault_here gets is).0, some_of (inr (fault_here gets is).1));
+      no_memory = λ is. some_of (memory_here gets is);
+      complete = by (λ input. length input ≤ limit → result ≢ status.ReadFault → result ≢ status.WriteFault → result ≢ status.NoMemory
+          → (due : Due) × IsDue asked input due × (result ≡ due.status)) (λ within no_fault written room. gets_here gets written room);
+      past_limit = long;
+      later = later_here gets;
+    }
 
-    pub run_turn : Gets asked input old new before now result → result ≡ status.TurnRefused
-        → IfSome left (λ input. ToldOf asked input status.TurnRefused old new) × IsAtEnd after
-    run_turn gets is = (told_by _ limit left after input read (turn_here gets is), read.at_end)
+-- ---- of an input that was read whole
 
-    pub run_history : Gets asked input old new before now result → result ≡ status.HistoryRefused
-        → IfSome left (λ input. ToldOf asked input status.HistoryRefused old new) × IsAtEnd after
-    run_history gets is = (told_by _ limit left after input read (history_here gets is), read.at_end)
+-- a command that reads
+abbrev pub IsReader : Command → Type 0
+IsReader asked = (left : Option (List ℕ)) → input_of asked left ≡ left
 
-    pub run_endless : Gets asked input old new before now result → result ≡ status.RunTooLong
-        → IfSome left (λ input. ToldOf asked input status.RunTooLong old new) × IsAtEnd after
-    run_endless gets is = (told_by _ limit left after input read (endless_here gets is), read.at_end)
+reads_by : (order : Order) (form : Form) → IsReader (command_by order form)
+reads_by order.Serial form left = refl
+reads_by order.Replay form left = refl
 
-    pub run_fault : Gets asked input old new before now result → result ≡ status.WriteFault
-        → Rose before now × AppendsSomeOf (Some asked) left old new
-    run_fault gets is = ((fault_here gets is).0, inr (front_of asked input old new limit left after read (fault_here gets is).1))
+pub reads_for : (aim : Purpose) → IsReader (command_for aim)
+reads_for (purpose.Run plan) left = reads_by plan.order plan.form left
+reads_for purpose.Check left = refl
 
-    pub run_memory : Gets asked input old new before now result → result ≡ status.NoMemory → AppendsSomeOf (Some asked) left old new
-    run_memory gets is = memory_of asked input old new limit left after read (memory_here gets is)
+pub run_reads : (form : Form) → IsReader (command.Run form)
+run_reads form left = refl
 
-    pub run_gets : Gets asked input old new before now result → GetsDueOf (Some asked) left limit result
-    run_gets gets = gets_of asked input result limit left after read (gets_here gets)
+ends_for : (asked : Command) (after : Option (List ℕ)) → IsAtEnd after → EndsInput asked after
+ends_for (command.Serial form) after ends = ends
+ends_for (command.Replay form) after ends = ends
+ends_for (command.Run form) after ends = ends
+ends_for (command.Gen seed count form) after ends = tt
+ends_for command.Check after ends = ends
 
-pub planned_by : (P : Plan → List ℕ → Type 0) (o : Option Plan) (limit : ℕ) (left after : Option (List ℕ)) (input : List ℕ) → ReadsWhole limit left after input
-    → IfSome o (λ plan. P plan input) → IfSome o (λ plan. IfSome left (λ input. P plan input))
-planned_by P None limit left after input read holds = tt
-planned_by P (Some plan) limit left after input read holds = told_by (P plan) limit left after input read holds
+pub of_read : (asked : Command) (limit : ℕ) (left after : Option (List ℕ)) (input : List ℕ) → IsReader asked → ReadsWhole limit left after input
+    → (P : List ℕ → Type 0) → P input → OfInput asked left P
+of_read asked limit left after input reader read P holds = subst (λ (o : Option (List ℕ)). IfSome o P) (sym (reader left)) (told_by P limit left after input read holds)
+
+pub does_reading : (asked : Command) (limit : ℕ) (left after : Option (List ℕ)) (input : List ℕ) (old new : Option (List ℕ)) (before now : ℕ) (result : Status) → IsReader asked
+    → ReadsWhole limit left after input → Gets asked input old new before now result → Does asked limit left after old new before now result
+does_reading asked limit left after input old new before now result reader read gets =
+    does asked input old new before now result limit left after (of_read asked limit left after input reader read) (ends_for asked after read.at_end)
+    (subst (λ (o : Option (List ℕ)). TellsLong o limit result) (sym (reader left)) (within_limit limit left after input result read)) gets
+
+-- and of one that was not: a read failed, the input is too long or memory was wanted
+
+for_any : (o : Option (List ℕ)) (P : List ℕ → Type 0) → ((input : List ℕ) → P input) → IfSome o P
+for_any None P all = tt
+for_any (Some input) P all = all input
+
+abbrev pub GetsHere : Command → ℕ → Status → List ℕ → Type 0
+GetsHere asked limit result input = length input ≤ limit → result ≢ status.ReadFault → result ≢ status.WriteFault → result ≢ status.NoMemory
+    → (due : Due) × IsDue asked input due × (result ≡ due.status)
+
+over_limit : (asked : Command) (limit : ℕ) (left after : Option (List ℕ)) (result : Status) → TakesMore limit left after → IfSome left (GetsHere asked limit result)
+over_limit asked limit None after result more = tt
+over_limit asked limit (Some input) None result more = absurd more.taken
+over_limit asked limit (Some input) (Some rest) result more = λ within no_fault written room.
+    absurd (omega (arith, within, more.more, ap length more.taken, length-append more.bytes rest))
+
+module _ (asked : Command) (limit : ℕ) (left after old : Option (List ℕ)) (before : ℕ) where
+  pub does_failed : Does asked limit left after old old before before status.ReadFault
+  does_failed = record {
+    told = λ is. absurd (cc);
+    input_refused = λ is. absurd (cc);
+    turn_refused = λ is. absurd (cc);
+    history_refused = λ is. absurd (cc);
+    run_too_long = λ is. absurd (cc);
+    no_usage = λ is. absurd (cc);
+    write_fault = λ is. absurd (cc);
+    no_memory = λ is. absurd (cc);
+    complete = for_any (input_of asked left) (GetsHere asked limit status.ReadFault) (λ input within no_fault written room. absurd (no_fault refl));
+    past_limit = long_failed (input_of asked left) limit;
+    later = le_refl before;
+  }
+
+  pub does_unread : Does asked limit left after old old before before status.NoMemory
+  does_unread = record {
+    told = λ is. absurd (cc);
+    input_refused = λ is. absurd (cc);
+    turn_refused = λ is. absurd (cc);
+    history_refused = λ is. absurd (cc);
+    run_too_long = λ is. absurd (cc);
+    no_usage = λ is. absurd (cc);
+    write_fault = λ is. absurd (cc);
+    no_memory = λ is. inl (Keeps-refl old);
+    complete = for_any (input_of asked left) (GetsHere asked limit status.NoMemory) (λ input within no_fault written room. absurd (room refl));
+    past_limit = long_unread (input_of asked left) limit;
+    later = le_refl before;
+  }
+
+  pub does_long : IsReader asked → TakesMore limit left after → Does asked limit left after old old before before status.InputTooLong
+  does_long reader more = record {
+    told = λ is. absurd (cc);
+    input_refused = λ is. absurd (cc);
+    turn_refused = λ is. absurd (cc);
+    history_refused = λ is. absurd (cc);
+    run_too_long = λ is. absurd (cc);
+    no_usage = λ is. absurd (cc);
+    write_fault = λ is. absurd (cc);
+    no_memory = λ is. absurd (cc);
+    complete = subst (λ (o : Option (List ℕ)). IfSome o (GetsHere asked limit status.InputTooLong)) (sym (reader left)) (over_limit asked limit left after status.InputTooLong more);
+    past_limit = long_told (input_of asked left) limit;
+    later = le_refl before;
+  }
+
+-- what a plan's run came to
+
+planned : (o : Option Plan) (P : Plan → List ℕ → Type 0) (asked : Command) (limit : ℕ) (left after : Option (List ℕ)) (input : List ℕ) → IsReader asked
+    → ReadsWhole limit left after input → IfSome o (λ plan. P plan input) → IfSome o (λ plan. OfInput asked left (λ input. P plan input))
+planned None P asked limit left after input reader read holds = tt
+planned (Some plan) P asked limit left after input reader read holds = of_read asked limit left after input reader read (P plan) holds
+
+pub reported_reading : (asked : Command) (limit : ℕ) (left after : Option (List ℕ)) (input : List ℕ) (old new : Option (List ℕ)) → IsReader asked → ReadsWhole limit left after input
+    → IfSome (plan_of asked) (λ plan. HasScene (scene_by asked input) (λ scene. ReportsRun plan.order plan.form scene old new)) → ReportedBy asked left old new
+reported_reading asked limit left after input old new reader read holds =
+    planned (plan_of asked) (λ plan input. HasScene (scene_by asked input) (λ scene. ReportsRun plan.order plan.form scene old new)) asked limit left after input reader read holds
+
+pub endless_reading : (asked : Command) (limit : ℕ) (left after : Option (List ℕ)) (input : List ℕ) → IsReader asked → ReadsWhole limit left after input
+    → IfSome (plan_of asked) (λ plan. HasScene (scene_by asked input) (λ scene. IsEndless plan.order scene)) → EndlessBy asked left
+endless_reading asked limit left after input reader read holds =
+    planned (plan_of asked) (λ plan input. HasScene (scene_by asked input) (λ scene. IsEndless plan.order scene)) asked limit left after input reader read holds
+
+pub done_reading : (form : Form) (limit : ℕ) (left after : Option (List ℕ)) (input : List ℕ) (old new : Option (List ℕ)) → ReadsWhole limit left after input
+    → HasScene (scene_of input) (λ scene. IsReported form scene old new) → DoneBy (command.Run form) left old new
+done_reading form limit left after input old new read holds =
+    of_read (command.Run form) limit left after input (run_reads form) read (λ input. HasScene (scene_of input) (λ scene. IsReported form scene old new)) holds
+
+-- ---- of a scene that was made
+
+pub does_making : (seed count : ℕ) (form : Form) (limit : ℕ) (left after old new : Option (List ℕ)) (before now : ℕ) (result : Status)
+    → Gets (command.Gen seed count form) [] old new before now result → Does (command.Gen seed count form) limit left after old new before now result
+does_making seed count form limit left after old new before now result gets =
+    does (command.Gen seed count form) [] old new before now result limit left after (λ P holds. holds) tt (λ over. absurd (omega (arith, over))) gets
+
+pub made_told : (seed count : ℕ) (form : Form) (old new : Option (List ℕ)) (before now : ℕ) (result : Status)
+    → Tells (due_of_run (generated seed count) form (outturn_of order.Serial (generated seed count))) old new before now result
+    → TellsSome (IsDue (command.Gen seed count form) []) old new before now result
+unfolding IsDue
+made_told seed count form old new before now result told =
+    inl (due_of_run (generated seed count) form (outturn_of order.Serial (generated seed count)), refl, told)
+
+-- ---- of the command that words are
+
+pub of_command : (asked : Option Command) (one : Command) (P : Command → Type 0) → Some one ≡ asked → P one → HasCommand asked P
+of_command asked one P is holds = subst (λ (o : Option Command). HasCommand o P) is holds
+
+pub if_command : (asked : Option Command) (one : Command) (P : Command → Type 0) → Some one ≡ asked → P one → IfSome asked P
+if_command asked one P is holds = subst (λ (o : Option Command). IfSome o P) is holds
+
+pub some_of_command : (asked : Option Command) (one : Command) (left old new : Option (List ℕ)) → Some one ≡ asked → AppendsSomeOf (Some one) left old new → AppendsSomeOf asked left old new
+some_of_command asked one left old new is some = subst (λ (o : Option Command). AppendsSomeOf o left old new) is some
+
+pub gets_of_command : (asked : Option Command) (one : Command) (left : Option (List ℕ)) (limit : ℕ) (result : Status) → Some one ≡ asked → GetsDueOf (Some one) left limit result → GetsDueOf asked left limit result
+gets_of_command asked one left limit result is gets = subst (λ (o : Option Command). GetsDueOf o left limit result) is gets
+
+pub long_of_command : (asked : Option Command) (one : Command) (left : Option (List ℕ)) (limit : ℕ) (result : Status) → Some one ≡ asked → TellsLongOf (Some one) left limit result → TellsLongOf asked left limit result
+long_of_command asked one left limit result is long = subst (λ (o : Option Command). TellsLongOf o left limit result) is long
+
+-- before the command is known, or where there is none
+
+pub unknown_gets : (asked : Option Command) (left : Option (List ℕ)) (limit : ℕ) → GetsDueOf asked left limit status.NoMemory
+unknown_gets None left limit = tt
+unknown_gets (Some one) left limit = for_any (input_of one left) (GetsHere one limit status.NoMemory) (λ input within no_fault written room. absurd (room refl))
+
+pub unknown_long : (asked : Option Command) (left : Option (List ℕ)) (limit : ℕ) → TellsLongOf asked left limit status.NoMemory
+unknown_long None left limit = tt
+unknown_long (Some one) left limit = long_unread (input_of one left) limit
+
+untouched : {A : Type 0} (one : Command) (source : A) → Unread one source source
+untouched (command.Serial form) source = tt
+untouched (command.Replay form) source = tt
+untouched (command.Run form) source = tt
+untouched (command.Gen seed count form) source = refl
+untouched command.Check source = tt
+
+pub unknown_unread : {A : Type 0} (asked : Option Command) (source : A) → IfSome asked (λ one. Unread one source source)
+unknown_unread None source = tt
+unknown_unread (Some one) source = untouched one source
+
+freely : {A : Type 0} (order : Order) (form : Form) (before after : A) → Unread (command_by order form) before after
+freely order.Serial form before after = tt
+freely order.Replay form before after = tt
+
+pub reads_freely : {A : Type 0} (aim : Purpose) (before after : A) → Unread (command_for aim) before after
+reads_freely (purpose.Run plan) before after = freely plan.order plan.form before after
+reads_freely purpose.Check before after = tt
 
 -- What is told of a scene that was read, or of its fault.
 
 pub scene_told : (asked : Command) (input : List ℕ) (scene : SceneValue) (old new : Option (List ℕ)) (before now : ℕ) (result : Status)
-    → scene_of (scene_text asked input) ≡ Ok scene → TellsSome (IsDueOfScene asked input (Ok scene)) old new before now result → TellsSome (IsDue asked input) old new before now result
+    → scene_by asked input ≡ Ok scene → TellsSome (IsDueOfScene asked input (Ok scene)) old new before now result → TellsSome (IsDue asked input) old new before now result
 unfolding IsDue
 scene_told asked input scene old new before now result is told = subst (λ r. TellsSome (IsDueOfScene asked input r) old new before now result) (sym is) told
 
 pub fault_told : (asked : Command) (input : List ℕ) (fault : SceneFault) (old new : Option (List ℕ)) (before now : ℕ) (result : Status)
-    → scene_of (scene_text asked input) ≡ Err fault → Tells (record { status = status.InputRefused; text = fault_text fault }) old new before now result
+    → scene_by asked input ≡ Err fault → Tells (record { status = status.InputRefused; text = fault_text fault }) old new before now result
     → TellsSome (IsDue asked input) old new before now result
 unfolding IsDue
 fault_told asked input fault old new before now result is told =
@@ -213,41 +359,34 @@ whole_reported plan scene old new told reports = record {
   report = reports.report;
 }
 
-abbrev pub RunReported : Plan → List ℕ → (old new : Option (List ℕ)) → Type 0
-RunReported plan input old new = HasScene (scene_of input) (λ scene. ReportsRun plan.order plan.form scene old new)
+-- what is due of a run by this order
+abbrev pub IsPlanned : Command → Order → Form → Type 0
+IsPlanned asked order form = (input : List ℕ) (scene : SceneValue) (due : Due) → IsDueOfScene asked input (Ok scene) due → due ≡ due_of_run scene form (outturn_of order scene)
 
-done_read : (order : Order) (form : Form) (input : List ℕ) (read : Result SceneValue SceneFault) (due : Due) (old new : Option (List ℕ))
-    → IsDueOfScene (command_by order form) input read due → TellsWhole due status.Done old new → HasScene read (λ scene. ReportsRun order form scene old new)
-    → HasScene read (λ scene. IsReported form scene old new)
-done_read order.Serial form input (Ok scene) due old new is told reports =
-    whole_reported (record { order = order.Serial; form = form }) scene old new (subst (λ d. TellsWhole d status.Done old new) is told) reports
-done_read order.Replay form input (Ok scene) due old new is told reports =
-    whole_reported (record { order = order.Replay; form = form }) scene old new (subst (λ d. TellsWhole d status.Done old new) is told) reports
-done_read order form input (Err fault) due old new is told reports = absurd reports
+module _ (asked : Command) (order : Order) (form : Form) (means : IsPlanned asked order form) (old new : Option (List ℕ)) where
+  done_scene : (input : List ℕ) (read : Result SceneValue SceneFault) (due : Due) → IsDueOfScene asked input read due → TellsWhole due status.Done old new
+      → HasScene read (λ scene. ReportsRun order form scene old new) → HasScene read (λ scene. IsReported form scene old new)
+  done_scene input (Ok scene) due is told reports =
+      whole_reported (record { order = order; form = form }) scene old new (subst (λ d. TellsWhole d status.Done old new) (means input scene due is) told) reports
+  done_scene input (Err fault) due is told reports = absurd reports
 
-done_serial : (form : Form) (input : List ℕ) (old new : Option (List ℕ)) → ToldOf (command.Serial form) input status.Done old new
-    → RunReported (record { order = order.Serial; form = form }) input old new → HasScene (scene_of input) (λ scene. IsReported form scene old new)
-unfolding IsDue
-done_serial form input old new told reports = done_read order.Serial form input (scene_of input) told.due old new told.is_due told.told reports
+  done_input : (o : Option (List ℕ)) → IfSome o (λ input. ToldOf asked input status.Done old new) → IfSome o (λ input. HasScene (scene_by asked input) (λ scene. ReportsRun order form scene old new))
+      → IfSome o (λ input. HasScene (scene_by asked input) (λ scene. IsReported form scene old new))
+  unfolding IsDue
+  done_input None told reports = tt
+  done_input (Some input) told reports = done_scene input (scene_by asked input) told.due told.is_due told.told reports
 
-done_replay : (form : Form) (input : List ℕ) (old new : Option (List ℕ)) → ToldOf (command.Replay form) input status.Done old new
-    → RunReported (record { order = order.Replay; form = form }) input old new → HasScene (scene_of input) (λ scene. IsReported form scene old new)
-unfolding IsDue
-done_replay form input old new told reports = done_read order.Replay form input (scene_of input) told.due old new told.is_due told.told reports
-
-abbrev pub DoneOf : Command → Option (List ℕ) → (old new : Option (List ℕ)) → Type 0
-DoneOf asked left old new = IfSome (form_of asked) (λ form. IfSome left (λ input. HasScene (scene_of input) (λ scene. IsReported form scene old new)))
-
-pub done_plain : (asked : Option Command) (left : Option (List ℕ)) (old new : Option (List ℕ))
-    → HasCommand (plain_of asked) (λ command. IfSome left (λ input. ToldOf command input status.Done old new))
-    → IfSome (plan_of asked) (λ plan. IfSome left (λ input. RunReported plan input old new)) → HasCommand asked (λ command. DoneOf command left old new)
-done_plain None left old new told reports = absurd told
-done_plain (Some (command.Serial form)) None old new told reports = tt
-done_plain (Some (command.Serial form)) (Some input) old new told reports = done_serial form input old new told reports
-done_plain (Some (command.Replay form)) None old new told reports = tt
-done_plain (Some (command.Replay form)) (Some input) old new told reports = done_replay form input old new told reports
-done_plain (Some (command.Run form)) left old new told reports = absurd told
-done_plain (Some command.Check) left old new told reports = tt
+pub done_plain : (asked : Option Command) (left after : Option (List ℕ)) (old new : Option (List ℕ)) → HasCommand (plain_of asked) (λ one. ToldBy one left after status.Done old new)
+    → HasCommand (plain_of asked) (λ one. ReportedBy one left old new) → HasCommand asked (λ one. DoneBy one left old new × EndsInput one after)
+done_plain None left after old new told reports = absurd told
+done_plain (Some (command.Serial form)) left after old new told reports =
+    (done_input (command.Serial form) order.Serial form (λ input scene due is. is) old new left told.0 reports, told.1)
+done_plain (Some (command.Replay form)) left after old new told reports =
+    (done_input (command.Replay form) order.Replay form (λ input scene due is. is) old new left told.0 reports, told.1)
+done_plain (Some (command.Run form)) left after old new told reports = absurd told
+done_plain (Some (command.Gen seed count form)) left after old new told reports =
+    (done_input (command.Gen seed count form) order.Serial form (λ input scene due is. is) old new (Some []) told.0 reports, told.1)
+done_plain (Some command.Check) left after old new told reports = (tt, told.1)
 
 -- What a check tells.
 
@@ -294,29 +433,3 @@ run_reported scene form log old new before now result run carries tells reports 
   appended = (tells.done done).appended;
   report = reports done;
 }
-
--- what was done
-
-pub run_done : (form : Form) (input : List ℕ) (old new : Option (List ℕ)) (result : Status) (limit : ℕ) (left after : Option (List ℕ)) → ReadsWhole limit left after input
-    → (result ≡ status.Done → HasScene (scene_of input) (λ scene. IsReported form scene old new)) → result ≡ status.Done
-    → IfSome left (λ input. HasScene (scene_of input) (λ scene. IsReported form scene old new)) × IsAtEnd after
-run_done form input old new result limit left after read holds is =
-    (told_by (λ all. HasScene (scene_of all) (λ scene. IsReported form scene old new)) limit left after input read (holds is), read.at_end)
-
--- A run by threads has no plan.
-
-no_run_plan : (asked : Option Command) (form : Form) (P : Plan → Type 0) → asked ≡ Some (command.Run form) → IfSome (plan_of asked) P
-no_run_plan None form P is = absurd (cc)
-no_run_plan (Some (command.Serial other)) form P is = absurd (cc)
-no_run_plan (Some (command.Replay other)) form P is = absurd (cc)
-no_run_plan (Some (command.Run other)) form P is = tt
-no_run_plan (Some command.Check) form P is = absurd (cc)
-
-pub no_run_reported : (asked : Option Command) (form : Form) (left : Option (List ℕ)) (old new : Option (List ℕ)) → asked ≡ Some (command.Run form)
-    → IfSome (plan_of asked) (λ plan. IfSome left (λ input. HasScene (scene_of input) (λ scene. ReportsRun plan.order plan.form scene old new)))
-no_run_reported asked form left old new is =
-    no_run_plan asked form (λ plan. IfSome left (λ input. HasScene (scene_of input) (λ scene. ReportsRun plan.order plan.form scene old new))) is
-
-pub no_run_endless : (asked : Option Command) (form : Form) (left : Option (List ℕ)) → asked ≡ Some (command.Run form)
-    → IfSome (plan_of asked) (λ plan. IfSome left (λ input. HasScene (scene_of input) (λ scene. IsEndless plan.order scene)))
-no_run_endless asked form left is = no_run_plan asked form (λ plan. IfSome left (λ input. HasScene (scene_of input) (λ scene. IsEndless plan.order scene))) is

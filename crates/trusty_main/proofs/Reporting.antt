@@ -126,10 +126,6 @@ pub long_unread : (left : Option (List ℕ)) (limit : ℕ) → TellsLong left li
 long_unread None limit = tt
 long_unread (Some input) limit = λ over. inr (inr refl)
 
-pub if_any : {A : Type 0} {P : Type 0} (asked : Option A) → P → IfSome asked (λ _. P)
-if_any None p = tt
-if_any (Some found) p = p
-
 -- nothing was read
 pub unread : (left : Option (List ℕ)) (n : ℕ) → IfSome left (λ input. n ≤ n + length input + 1)
 unread None n = tt

@@ -1,7 +1,7 @@
-//! Which commands run without threads.
+//! What a command without threads is to do.
 
-ghost use Rattle.std.specs.Prelude.{◌≡◌, IfOk, map, option_and_then, option_map, string_bytes};
-ghost use Rattle.trusty_main.specs.Plans.{as_command, plain_in, plan_in, run_of};
+ghost use Rattle.std.specs.Prelude.{◌≡◌, IfOk, map, option_map, string_bytes};
+ghost use Rattle.trusty_main.specs.Plans.{MakesFew, as_command, plain_in};
 
 use command_line::{Command, command_of};
 use kernel_types::values::NoMemory;
@@ -24,31 +24,49 @@ pub struct Plan {
     pub form: Form,
 }
 
-/// What a command without threads is to do.
+/// What is done with an input.
 #[derive(Clone, Copy, PartialEq, Eq, Debug)]
-pub enum Task {
-    /// To run a scene and report on it.
+pub enum Purpose {
+    /// To run the scene that it spells and report on it.
     Run(Plan),
-    /// To check a report.
+    /// To check the report behind the scene.
     Check,
 }
 
+/// A scene that is made, and its report's form.
+#[derive(Clone, Copy, PartialEq, Eq, Debug)]
+pub struct Making {
+    pub seed: u64,
+    pub count: u32,
+    pub form: Form,
+}
+
+/// What a command without threads is to do.
+#[derive(Clone, Copy, PartialEq, Eq, Debug)]
+pub enum Task {
+    /// To read the input, for this.
+    Read(Purpose),
+    /// To run a scene that a seed gives, without reading.
+    Make(Making),
+}
+
 /// The task that the words command; none where they are no command, or one that takes threads.
-#[tactic(auto, unfolding(crate::specs::Plans::plain_in, crate::specs::Plans::plan_in))]
+#[tactic(auto, unfolding(crate::specs::Plans::plain_in))]
 pub fn task_of(alloc: Global, words: &[String]) -> Result<Option<Task>, NoMemory>
     ensures command { IfOk result (λ task. option_map as_command task ≡ plain_in (map string_bytes words.now)) }
-    ensures plan { IfOk result (λ task. option_and_then run_of task ≡ plan_in (map string_bytes words.now)) }
+    ensures few { IfOk result (λ task. MakesFew task) }
 {
     Ok(match command_of(alloc, words)? {
-        Some(Command::Serial(form)) => Some(Task::Run(Plan {
+        Some(Command::Serial(form)) => Some(Task::Read(Purpose::Run(Plan {
             order: Order::Serial,
             form,
-        })),
-        Some(Command::Replay(form)) => Some(Task::Run(Plan {
+        }))),
+        Some(Command::Replay(form)) => Some(Task::Read(Purpose::Run(Plan {
             order: Order::Replay,
             form,
-        })),
-        Some(Command::Check) => Some(Task::Check),
+        }))),
+        Some(Command::Gen { seed, count, form }) => Some(Task::Make(Making { seed, count, form })),
+        Some(Command::Check) => Some(Task::Read(Purpose::Check)),
         Some(Command::Run(_)) | None => None,
     })
 }

@@ -62,6 +62,12 @@ fn rows(rt: HostRuntime) -> Result<(), Fail> {
         ),
         ("replay", SCENE, "turn 0 refused\n", Status::TurnRefused),
         (
+            "gen 1 12",
+            "no scene",
+            "summary history 16 begins 16 resumes 0 device 0 idle 0\nanswers given 16 refused 0\nend clock 0 objects 0 names 0\n",
+            Status::Done,
+        ),
+        (
             "run",
             SCENE,
             "usage: trusty COMMAND [--form FORM]\n",

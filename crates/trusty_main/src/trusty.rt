@@ -1,14 +1,14 @@
 //! The top call: from the words and the input to what is written and the status.
 
 ghost use Rattle.std.specs.Prelude.{◌≡◌, ◌≢◌, ◌+◌, ◌≤◌, ◌⊎◌, max, Some, None, map, length, string_bytes, IfNone, IfSome};
-ghost use Rattle.std.specs.Io.KnownBytes.{Appends, Keeps, IsAtEnd};
+ghost use Rattle.std.specs.Io.KnownBytes.{Appends, Keeps};
 ghost use Rattle.outside_io.specs.Faults.{Rose};
 ghost use Rattle.outside_io.specs.Reading.{TakesMore};
 ghost use Rattle.command_line.specs.Commands.{command_in};
 ghost use Rattle.scene_reader.specs.Whole.{scene_of};
-ghost use Rattle.trusty_main.specs.Answers.{HasScene, IsEndless, ReportsRun, TellsLong};
-ghost use Rattle.trusty_main.specs.Commanded.{AppendsSomeOf, GetsDueOf, HasCommand, IsDue, IsDueOfThreads, IsReported, TellsSome, ToldOf, form_of};
-ghost use Rattle.trusty_main.specs.Plans.{plain_of, plan_in};
+ghost use Rattle.trusty_main.specs.Answers.{HasScene};
+ghost use Rattle.trusty_main.specs.Commanded.{AppendsSomeOf, DoneBy, Does, EndlessBy, GetsDueOf, HasCommand, IsDue, IsDueOfThreads, IsReported, ReportedBy, TellsLongOf, TellsSome, ToldBy, Unread};
+ghost use Rattle.trusty_main.specs.Plans.{EndsInput, plain_of};
 ghost use Rattle.trusty_main.specs.Texts.{usage_text};
 
 use crate::plain::trusty_plain;
@@ -26,9 +26,10 @@ use std::sync::Wait;
 use std::thread::Threads;
 
 /// Runs the command that the words give: reads a scene to the source's end, runs it, and writes the
-/// report; or checks the report that follows it. For `run` each actor has a thread of its own, and the hook is called before each of its calls;
-/// that this returns is not promised. Every other command takes no threads and always returns.
-#[tactic(auto, unfolding(crate::specs::Plans::plain_in), using(crate::proofs::Reporting::if_any, crate::proofs::Reporting::long_unread, crate::proofs::Reporting::unread))]
+/// report; or checks the report that follows it; or makes a scene, without reading, and does the same. For `run` each actor has a
+/// thread of its own, and the hook is called before each of its calls; that this returns is not promised. Every other command takes
+/// no threads and always returns.
+#[tactic(auto, unfolding(crate::specs::Plans::plain_in), using(crate::proofs::Reporting::unread, crate::proofs::Commanding::unknown_gets, crate::proofs::Commanding::unknown_long, crate::proofs::Commanding::unknown_unread))]
 pub fn trusty<R: Threads + Wait + Sync, S: Source, K: Sink, H: Hook + Sync>(
     rt: &R,
     alloc: Global,
@@ -43,24 +44,19 @@ pub fn trusty<R: Threads + Wait + Sync, S: Source, K: Sink, H: Hook + Sync>(
     // is there is named by some entry, and an ended application names none. Where clients write memory and rings through
     // the driver alone, what crosses the bridge in it is carried in order. In the history form no other history has this
     // report.
-    ensures done { result ≡ Status.Done → HasCommand (command_in (map string_bytes words.now)) (λ command. IfSome (form_of command) (λ form. IfSome (S.left source.old) (λ input. HasScene (scene_of input) (λ scene. IsReported form scene (K.written sink.old) (K.written sink.new)))))
-        × IsAtEnd (S.left source.new) }
+    ensures done { result ≡ Status.Done → HasCommand (command_in (map string_bytes words.now)) (λ command. DoneBy command (S.left source.old) (K.written sink.old) (K.written sink.new) × EndsInput command (S.left source.new)) }
 
-    // Of `serial` and `replay` that history is the run of their turns, in every form; and one that is too long has as many
+    // Of `serial`, `replay` and `gen` that history is the run of their turns, in every form; and one that is too long has as many
     // legal entries as a run may have, by the scripts.
-    ensures reported { result ≡ Status.Done → IfSome (plan_in (map string_bytes words.now)) (λ plan. IfSome (S.left source.old) (λ input. HasScene (scene_of input) (λ scene. ReportsRun plan.order plan.form scene (K.written sink.old) (K.written sink.new)))) }
-    ensures endless { result ≡ Status.RunTooLong → IfSome (plan_in (map string_bytes words.now)) (λ plan. IfSome (S.left source.old) (λ input. HasScene (scene_of input) (λ scene. IsEndless plan.order scene))) }
+    ensures reported { result ≡ Status.Done → HasCommand (command_in (map string_bytes words.now)) (λ command. ReportedBy command (S.left source.old) (K.written sink.old) (K.written sink.new)) }
+    ensures endless { result ≡ Status.RunTooLong → HasCommand (command_in (map string_bytes words.now)) (λ command. EndlessBy command (S.left source.old)) }
 
-    // What is told is what is due: of `serial` and `replay` the one text, of `run` that of some history, of `check` the verdict.
-    ensures told { result ≡ Status.Done → HasCommand (command_in (map string_bytes words.now)) (λ command. IfSome (S.left source.old) (λ input. ToldOf command input Status.Done (K.written sink.old) (K.written sink.new))) }
-    ensures input_refused { result ≡ Status.InputRefused → HasCommand (command_in (map string_bytes words.now)) (λ command. IfSome (S.left source.old) (λ input. ToldOf command input Status.InputRefused (K.written sink.old) (K.written sink.new)))
-        × IsAtEnd (S.left source.new) }
-    ensures turn_refused { result ≡ Status.TurnRefused → HasCommand (command_in (map string_bytes words.now)) (λ command. IfSome (S.left source.old) (λ input. ToldOf command input Status.TurnRefused (K.written sink.old) (K.written sink.new)))
-        × IsAtEnd (S.left source.new) }
-    ensures history_refused { result ≡ Status.HistoryRefused → HasCommand (command_in (map string_bytes words.now)) (λ command. IfSome (S.left source.old) (λ input. ToldOf command input Status.HistoryRefused (K.written sink.old) (K.written sink.new)))
-        × IsAtEnd (S.left source.new) }
-    ensures run_too_long { result ≡ Status.RunTooLong → HasCommand (command_in (map string_bytes words.now)) (λ command. IfSome (S.left source.old) (λ input. ToldOf command input Status.RunTooLong (K.written sink.old) (K.written sink.new)))
-        × IsAtEnd (S.left source.new) }
+    // What is told is what is due: of `serial`, `replay` and `gen` the one text, of `run` that of some history, of `check` the verdict.
+    ensures told { result ≡ Status.Done → HasCommand (command_in (map string_bytes words.now)) (λ command. ToldBy command (S.left source.old) (S.left source.new) Status.Done (K.written sink.old) (K.written sink.new)) }
+    ensures input_refused { result ≡ Status.InputRefused → HasCommand (command_in (map string_bytes words.now)) (λ command. ToldBy command (S.left source.old) (S.left source.new) Status.InputRefused (K.written sink.old) (K.written sink.new)) }
+    ensures turn_refused { result ≡ Status.TurnRefused → HasCommand (command_in (map string_bytes words.now)) (λ command. ToldBy command (S.left source.old) (S.left source.new) Status.TurnRefused (K.written sink.old) (K.written sink.new)) }
+    ensures history_refused { result ≡ Status.HistoryRefused → HasCommand (command_in (map string_bytes words.now)) (λ command. ToldBy command (S.left source.old) (S.left source.new) Status.HistoryRefused (K.written sink.old) (K.written sink.new)) }
+    ensures run_too_long { result ≡ Status.RunTooLong → HasCommand (command_in (map string_bytes words.now)) (λ command. ToldBy command (S.left source.old) (S.left source.new) Status.RunTooLong (K.written sink.old) (K.written sink.new)) }
     ensures usage { result ≡ Status.Usage → (command_in (map string_bytes words.now) ≡ None) × Appends (K.written sink.old) (K.written sink.new) usage_text × (source.new ≡ source.old) }
 
     // A fault is answered only where it came, and then a front of what is due was written, but not all of it; so where
@@ -75,12 +71,13 @@ pub fn trusty<R: Threads + Wait + Sync, S: Source, K: Sink, H: Hook + Sync>(
     // no read and no write failed and memory was there.
     ensures no_command { command_in (map string_bytes words.now) ≡ None → (result ≡ Status.Usage) ⊎ (result ≡ Status.WriteFault) ⊎ (result ≡ Status.NoMemory) }
     ensures complete { GetsDueOf (command_in (map string_bytes words.now)) (S.left source.old) INPUT_LIMIT result }
-    ensures past_limit { IfSome (command_in (map string_bytes words.now)) (λ _. TellsLong (S.left source.old) INPUT_LIMIT result) }
+    ensures past_limit { TellsLongOf (command_in (map string_bytes words.now)) (S.left source.old) INPUT_LIMIT result }
 
-    // One read for each byte and one more, at most, and none asks for more than a piece.
+    // One read for each byte and one more, at most, and none asks for more than a piece; where a scene is made, none.
     ensures reads { S.calls source.new ≤ S.calls source.old + INPUT_LIMIT + 1 }
     ensures reads_of { IfSome (S.left source.old) (λ input. S.calls source.new ≤ S.calls source.old + length input + 1) }
     ensures asked { S.asked source.new ≤ max (S.asked source.old) READ_SIZE }
+    ensures unread { IfSome (command_in (map string_bytes words.now)) (λ command. Unread command source.old source.new) }
 {
     let command = match command_of(alloc, words) {
         Ok(command) => command,
@@ -101,13 +98,14 @@ fn threaded(command: Option<Command>) -> Option<Form>
         None => None,
         Some(Command::Serial(_)) => None,
         Some(Command::Replay(_)) => None,
+        Some(Command::Gen { .. }) => None,
         Some(Command::Check) => None,
         Some(Command::Run(form)) => Some(form),
     }
 }
 
 // Reads a scene and runs it by threads.
-#[tactic(auto, using(crate::proofs::Reporting::within_limit, crate::proofs::Reporting::long_told, crate::proofs::Reporting::long_failed, crate::proofs::Reporting::long_unread, crate::proofs::Reporting::unread, crate::proofs::Commanding::run_later, crate::proofs::Commanding::run_no_usage, crate::proofs::Commanding::run_no_fault, crate::proofs::Commanding::run_told, crate::proofs::Commanding::run_refused, crate::proofs::Commanding::run_turn, crate::proofs::Commanding::run_history, crate::proofs::Commanding::run_endless, crate::proofs::Commanding::run_fault, crate::proofs::Commanding::run_memory, crate::proofs::Commanding::run_gets))]
+#[tactic(auto, using(crate::proofs::Commanding::does_failed, crate::proofs::Commanding::does_unread, crate::proofs::Commanding::does_long, crate::proofs::Commanding::run_reads, crate::proofs::Commanding::no_fault_here))]
 fn run<R: Threads + Wait + Sync, S: Source, K: Sink, H: Hook + Sync>(
     rt: &R,
     alloc: Global,
@@ -116,20 +114,11 @@ fn run<R: Threads + Wait + Sync, S: Source, K: Sink, H: Hook + Sync>(
     sink: &mut K,
     hook: &H,
 ) -> Status
-    ensures done { result ≡ Status.Done → IfSome (S.left source.old) (λ input. HasScene (scene_of input) (λ scene. IsReported form scene (K.written sink.old) (K.written sink.new))) × IsAtEnd (S.left source.new) }
-    ensures told { result ≡ Status.Done → IfSome (S.left source.old) (λ input. ToldOf (Command.Run form) input Status.Done (K.written sink.old) (K.written sink.new)) }
-    ensures input_refused { result ≡ Status.InputRefused → IfSome (S.left source.old) (λ input. ToldOf (Command.Run form) input Status.InputRefused (K.written sink.old) (K.written sink.new)) × IsAtEnd (S.left source.new) }
-    ensures turn_refused { result ≡ Status.TurnRefused → IfSome (S.left source.old) (λ input. ToldOf (Command.Run form) input Status.TurnRefused (K.written sink.old) (K.written sink.new)) × IsAtEnd (S.left source.new) }
-    ensures history_refused { result ≡ Status.HistoryRefused → IfSome (S.left source.old) (λ input. ToldOf (Command.Run form) input Status.HistoryRefused (K.written sink.old) (K.written sink.new)) × IsAtEnd (S.left source.new) }
-    ensures run_too_long { result ≡ Status.RunTooLong → IfSome (S.left source.old) (λ input. ToldOf (Command.Run form) input Status.RunTooLong (K.written sink.old) (K.written sink.new)) × IsAtEnd (S.left source.new) }
-    ensures no_usage { result ≢ Status.Usage }
+    ensures does { Does (Command.Run form) INPUT_LIMIT (S.left source.old) (S.left source.new) (K.written sink.old) (K.written sink.new) (K.faults sink.old) (K.faults sink.new) result }
+    ensures done { result ≡ Status.Done → DoneBy (Command.Run form) (S.left source.old) (K.written sink.old) (K.written sink.new) }
     ensures read_fault { result ≡ Status.ReadFault → Rose (S.faults source.old) (S.faults source.new) × Keeps (K.written sink.old) (K.written sink.new) }
-    ensures write_fault { result ≡ Status.WriteFault → Rose (K.faults sink.old) (K.faults sink.new) × AppendsSomeOf (Some (Command.Run form)) (S.left source.old) (K.written sink.old) (K.written sink.new) }
-    ensures no_memory { result ≡ Status.NoMemory → AppendsSomeOf (Some (Command.Run form)) (S.left source.old) (K.written sink.old) (K.written sink.new) }
     ensures input_too_long { result ≡ Status.InputTooLong → TakesMore INPUT_LIMIT (S.left source.old) (S.left source.new) × Keeps (K.written sink.old) (K.written sink.new) }
-    ensures later { (S.faults source.old ≤ S.faults source.new) × (K.faults sink.old ≤ K.faults sink.new) }
-    ensures complete { GetsDueOf (Some (Command.Run form)) (S.left source.old) INPUT_LIMIT result }
-    ensures past_limit { TellsLong (S.left source.old) INPUT_LIMIT result }
+    ensures later { S.faults source.old ≤ S.faults source.new }
     ensures reads { S.calls source.new ≤ S.calls source.old + INPUT_LIMIT + 1 }
     ensures reads_of { IfSome (S.left source.old) (λ input. S.calls source.new ≤ S.calls source.old + length input + 1) }
     ensures asked { S.asked source.new ≤ max (S.asked source.old) READ_SIZE }
@@ -193,7 +182,6 @@ fn run_scene<R: Threads + Wait + Sync, K: Sink, H: Hook + Sync>(
             drop(cut);
             tell_too_long(sink)
         }
-        Err(RunRefused::Unlawful) => unreachable!(),
         Err(RunRefused::NoMemory) => Status::NoMemory,
     }
 }

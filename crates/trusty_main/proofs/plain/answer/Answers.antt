@@ -8,12 +8,9 @@ use Rattle.trusty_main.specs.declared.status.Status.TheVariants as status
 use Rattle.trusty_main.proofs.Commanding.{plan_fault_told, plan_told}
 use Rattle.trusty_main.proofs.plain.answer.Goals as goal
 
-pub run-told-requires-clause-honest : goal.run-told-requires-clause-honest
-run-told-requires-clause-honest g c = c.scenes_have_honest_clients.ensures c.args.input.now c.in-Ok.scene c.in-Ok.ensures
-
-pub run-told-requires-clause-turns : goal.run-told-requires-clause-turns
+pub run-told-requires : goal.run-told-requires
 unfolding history_limit
-run-told-requires-clause-turns g c = omega (arith, c.turns_take_bytes.ensures c.args.input.now c.in-Ok.scene c.in-Ok.ensures, c.requires)
+run-told-requires g c = omega (arith, c.turns_take_bytes.ensures c.args.input.now c.in-Ok.scene c.in-Ok.ensures, c.requires)
 
 pub returns-in-Ok-clause-tells : goal.returns-in-Ok-clause-tells
 returns-in-Ok-clause-tells g c = plan_told c.args.input.now c.in-Ok.scene c.in-Ok.ensures _ _ _ _ _ c.args.plan.order c.args.plan.form c.run-told.ensures.tells
