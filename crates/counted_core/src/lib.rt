@@ -1,0 +1,6 @@
+//! The counted core: objects end where their last name goes, by counts in place of marking.
+#![tactic(auto)]
+
+pub mod counts;
+pub mod pushes;
+pub mod sweep;
