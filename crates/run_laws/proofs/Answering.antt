@@ -64,20 +64,20 @@ thread_kind c k app (call.NsPoke addr bytes) outcome is = absurd (cc)
 thread_kind c k app (call.NsKick queue head) outcome is = absurd (cc)
 thread_kind c k app _ outcome is = refl
 
-client_kind : (clock k : ℕ) (asked : Call) (w : World) (acted : Acted) → is_built asked ≡ true → ns_act clock k asked w ≡ Some acted → is_of_client asked ≡ true
+client_kind : (clock k : ℕ) (asked : Call) (w : World) (acted : Acted) → ns_act clock k asked w ≡ Some acted → is_of_client asked ≡ true
 unfolding ns_act
-client_kind clock k (call.NsConnect path) w acted built is = refl
-client_kind clock k (call.NsSend conn bytes) w acted built is = refl
-client_kind clock k (call.NsRecv conn timeout) w acted built is = refl
-client_kind clock k (call.NsClose conn) w acted built is = refl
-client_kind clock k call.Finish w acted built is = refl
-client_kind clock k (call.NsPoke addr bytes) w acted built is = absurd (cc)
-client_kind clock k (call.NsKick queue head) w acted built is = absurd (cc)
-client_kind clock k _ w acted built is = absurd (cc)
+client_kind clock k (call.NsConnect path) w acted is = refl
+client_kind clock k (call.NsSend conn bytes) w acted is = refl
+client_kind clock k (call.NsRecv conn timeout) w acted is = refl
+client_kind clock k (call.NsClose conn) w acted is = refl
+client_kind clock k call.Finish w acted is = refl
+client_kind clock k (call.NsPoke addr bytes) w acted is = refl
+client_kind clock k (call.NsKick queue head) w acted is = refl
+client_kind clock k _ w acted is = absurd (cc)
 
-begun : (s : State) (k start : ℕ) (asked : Call) (r : Stepped) → step s (event.Begin (record { 0 = k }) start asked) ≡ Some r → (is_built asked ≡ true) × (begin s k start asked ≡ Some r)
+begun : (s : State) (k start : ℕ) (asked : Call) (r : Stepped) → step s (event.Begin (record { 0 = k }) start asked) ≡ Some r → begin s k start asked ≡ Some r
 unfolding step
-begun s k start asked r is = only_if (is_built asked) (begin s k start asked) r is
+begun s k start asked r is = is
 
 ended : (s : State) (k start : ℕ) (r : Stepped) → step s (event.Resume (record { 0 = k }) start) ≡ Some r → resume s k start ≡ Some r
 unfolding step
@@ -136,8 +136,8 @@ module _ (from : ℕ → ℕ) (entries : List Entry) (s : State) (old : Everyone
   kept : (e : Event) (r stepped : Stepped) → r ≡ stepped → Stepping (counted from) entries s e stepped → KeepsEveryone e r
   kept e r stepped same stepping = subst (λ (x : Stepped). KeepsEveryone e x) (sym same) stepping.stand
 
-  begin_by : (k start : ℕ) (asked : Call) (r : Stepped) → is_built asked ≡ true → begin s k start asked ≡ Some r → Actor s k → KeepsEveryone (event.Begin (record { 0 = k }) start asked) r
-  begin_by k start asked r built is (is_thread thread thread_is status_is) =
+  begin_by : (k start : ℕ) (asked : Call) (r : Stepped) → begin s k start asked ≡ Some r → Actor s k → KeepsEveryone (event.Begin (record { 0 = k }) start asked) r
+  begin_by k start asked r is (is_thread thread thread_is status_is) =
       let runs : status_at s k ≡ Some (status.Running start) = begin_is_of_running s k start asked r is in
       let activity_is : thread.activity ≡ activity.Running start = running_is thread.activity start (sym status_is ∙ runs) in
       let counts : Counts from entries k (status.Running start) = counts_at from entries s old k (status.Running start) runs in
@@ -147,7 +147,7 @@ module _ (from : ℕ → ℕ) (entries : List Entry) (s : State) (old : Everyone
       kept (event.Begin (record { 0 = k }) start asked) r (in_world s.world (swept inner.0)) (out.2 ∙ ap (λ o. in_world s.world o) inner.2)
       (thread_begins (counted from) entries s old k start thread asked inner.0 thread_is activity_is (thread_kind s.core k thread.app asked inner.0 inner.1)
       (λ goes. counts_call from entries k start asked counts.0 counts.1) inner.1)
-  begin_by k start asked r built is (is_client j client k_is client_is status_is) =
+  begin_by k start asked r is (is_client j client k_is client_is status_is) =
       let runs : status_at s k ≡ Some (status.Running start) = begin_is_of_running s k start asked r is in
       let activity_is : client.activity ≡ client_activity.Running start = client_running_is client.activity start (sym status_is ∙ runs) in
       let counts : Counts from entries (length s.core.threads + j) (status.Running start) =
@@ -157,9 +157,9 @@ module _ (from : ℕ → ℕ) (entries : List Entry) (s : State) (old : Everyone
       (sym (client_begun s j start asked client client_is activity_is) ∙ subst (λ n. begin s n start asked ≡ Some r) k_is is) in
       subst (λ n. KeepsEveryone (event.Begin (record { 0 = n }) start asked) r) (sym k_is)
       (kept (event.Begin (record { 0 = length s.core.threads + j }) start asked) r (beside_core s.core out.0) out.2
-      (client_begins (counted from) entries s old j start client asked out.0 client_is activity_is (client_kind s.core.clock j asked s.world out.0 built out.1)
+      (client_begins (counted from) entries s old j start client asked out.0 client_is activity_is (client_kind s.core.clock j asked s.world out.0 out.1)
       (λ goes. counts_call from entries (length s.core.threads + j) start asked counts.0 counts.1) out.1))
-  begin_by k start asked r built is (is_none status_is) = let runs : status_at s k ≡ Some (status.Running start) = begin_is_of_running s k start asked r is in absurd (cc)
+  begin_by k start asked r is (is_none status_is) = let runs : status_at s k ≡ Some (status.Running start) = begin_is_of_running s k start asked r is in absurd (cc)
 
   resume_by : (k start : ℕ) (r : Stepped) → resume s k start ≡ Some r → Actor s k → KeepsEveryone (event.Resume (record { 0 = k }) start) r
   resume_by k start r is (is_thread thread thread_is status_is) =
@@ -201,8 +201,7 @@ module _ (from : ℕ → ℕ) (entries : List Entry) (s : State) (old : Everyone
       kept event.Idle r (idle s) (sym same) (idles (counted from) entries s old lawful.0)
 
   pub step_keeps : (e : Event) (r : Stepped) → step s e ≡ Some r → KeepsEveryone e r
-  step_keeps (event.Begin actor start asked) r is =
-      let lawful : (is_built asked ≡ true) × (begin s actor.0 start asked ≡ Some r) = begun s actor.0 start asked r is in begin_by actor.0 start asked r lawful.0 lawful.1 (actor_of s actor.0)
+  step_keeps (event.Begin actor start asked) r is = begin_by actor.0 start asked r (begun s actor.0 start asked r is) (actor_of s actor.0)
   step_keeps (event.Resume actor start) r is = resume_by actor.0 start r (ended s actor.0 start r is) (actor_of s actor.0)
   step_keeps event.Device r is = device_by r is
   step_keeps event.Idle r is = idle_by r is
@@ -262,7 +261,7 @@ module _ (scene : SceneValue) (before : List Entry) (entry : Entry) (after : Lis
   call_answers actor start asked is =
       let done : (r : Stepped) × (step (state_after (opening scene) before) (event.Begin (record { 0 = actor }) start asked) ≡ Some r) = here_step (event.Begin (record { 0 = actor }) start asked) is in
       let runs : status_at (state_after (opening scene) before) actor ≡ Some (status.Running start) =
-      begin_is_of_running (state_after (opening scene) before) actor start asked done.0 (begun (state_after (opening scene) before) actor start asked done.0 done.1).1 in
+      begin_is_of_running (state_after (opening scene) before) actor start asked done.0 (begun (state_after (opening scene) before) actor start asked done.0 done.1) in
       subst (λ (o : Option ActorStatus). HasAnswers actor before o) runs (here_answers actor)
 
   pub end_answers_last : (actor start : ℕ) → entry.event ≡ event.Resume (record { 0 = actor }) start → Open 1 actor start before

@@ -1,7 +1,7 @@
 -- Steps of clients, from a state in which every client stands.
 use Rattle.std.proofs.Common.{◌≡◌, ℕ, ◌+◌, ◌-◌, Bool, true, false, cond, List, [], ◌∷◌, ◌++◌, Option, Some, None, length, min, not, refl, ap, sym, ◌∙◌, subst, arith}
 use Rattle.std.proofs.lemmas.Bool.Decides.{nat_tests}
-use Rattle.std.specs.Prelude.{nat_lt, slice_get}
+use Rattle.std.specs.Prelude.{◌||◌, nat_lt, slice_get}
 use Rattle.kernel_values.specs.Words.{is_path}
 use Rattle.kernel_values.specs.declared.call.Call.{Call}
 use Rattle.kernel_values.specs.declared.call.Call.TheVariants as call
@@ -24,15 +24,15 @@ use Rattle.kernel_values.specs.declared.world.Connection.{Connection}
 use Rattle.kernel_values.specs.declared.world.ConnectionStatus.{ConnectionStatus}
 use Rattle.kernel_values.specs.declared.world.ConnectionStatus.TheVariants as connection_status
 use Rattle.kernel_values.specs.declared.world.World.{World}
-use Rattle.kernel_types.specs.Clients.{Acted, answer_of_wait, asks, client_changed, client_ended, client_running, client_waiting, close_by_status, close_on, connect_answer, connect_answer_of, counts, end_by_answer, end_of_ns_wait, is_asked, is_closed, new_wait, next_address, ns_act, ns_close_call, ns_connect_call, ns_gives, ns_recv_call, ns_refuses, ns_send_call, own_connection, receive_answer, receive_from, receive_on, receive_or_wait, send_by, send_by_status, send_frame, send_limit, send_on, sent_in, shuts, with_client, with_sent}
+use Rattle.kernel_types.specs.Clients.{Acted, answer_of_wait, asks, client_changed, client_ended, client_running, client_waiting, close_by_status, close_on, connect_answer, connect_answer_of, counts, end_by_answer, end_of_ns_wait, greatest_head, is_asked, is_closed, new_wait, next_address, ns_act, ns_close_call, ns_connect_call, ns_gives, ns_kick_call, ns_poke_call, ns_recv_call, ns_refuses, ns_send_call, own_connection, receive_answer, receive_from, receive_on, receive_or_wait, send_by, send_by_status, send_frame, send_limit, send_on, sent_in, shuts, with_client, with_sent}
 use Rattle.kernel_types.specs.Drains.{connection_of, drained, from_normal_drained, to_normal_drained}
+use Rattle.kernel_types.specs.GuestMemory.{memory_size}
 use Rattle.kernel_types.specs.Objects.{map_at}
 use Rattle.kernel_types.specs.Outcome.{no_seqs}
 use Rattle.kernel_types.specs.Sending.{frame, leave_frame, request_frame}
 use Rattle.kernel_types.specs.Step.{beside_core, client_begin, client_resume, client_status, step, runs_again}
 use Rattle.kernel_types.specs.Waits.{deadline_of, is_due, is_zero_timeout}
 use Rattle.step_laws.specs.Walks.{is_ending}
-use Rattle.run_laws.proofs.Callers.{client_built}
 use Rattle.kernel_values.specs.CallKinds.{is_of_client}
 use Rattle.run_laws.proofs.ClientPlaces.{ClientStands, ClientsStand, one_changes, one_stays}
 use Rattle.run_laws.proofs.Finals.{IsFinal}
@@ -135,6 +135,16 @@ close_call_leaves : (k : ℕ) (w : World) (conn : ℕ) → Leaves k w (ns_close_
 unfolding ns_close_call
 close_call_leaves k w conn = close_on_leaves k w (own_connection k conn w)
 
+-- a call past the driver is answered at once, and changes memory alone
+
+poke_leaves : (k : ℕ) (w : World) (addr : ℕ) (bytes : List ℕ) → Leaves k w (ns_poke_call addr bytes w)
+unfolding ns_poke_call
+poke_leaves k w addr bytes = leaves_if k w (nat_lt memory_size (addr + length bytes)) _ _ (stays refl refl) (stays refl refl)
+
+kick_leaves : (k : ℕ) (w : World) (queue head : ℕ) → Leaves k w (ns_kick_call queue head w)
+unfolding ns_kick_call
+kick_leaves k w queue head = leaves_if k w (nat_lt 1 queue || nat_lt greatest_head head) _ _ (stays refl refl) (stays refl refl)
+
 abbrev LeavesIf : ℕ → World → Option Acted → Type 0
 LeavesIf k w None = Unit {0}
 LeavesIf k w (Some acted) = Leaves k w acted
@@ -145,6 +155,8 @@ act_leaves k clock w (call.NsConnect path) kind goes = leaves_from k (drained w)
 act_leaves k clock w (call.NsSend conn bytes) kind goes = leaves_from k (drained w) w _ (drained_same w) (send_call_leaves k (drained w) conn bytes)
 act_leaves k clock w (call.NsRecv conn timeout) kind goes = leaves_from k (drained w) w _ (drained_same w) (receive_call_leaves k clock (drained w) conn timeout)
 act_leaves k clock w (call.NsClose conn) kind goes = leaves_from k (drained w) w _ (drained_same w) (close_call_leaves k (drained w) conn)
+act_leaves k clock w (call.NsPoke addr bytes) kind goes = poke_leaves k w addr bytes
+act_leaves k clock w (call.NsKick queue head) kind goes = kick_leaves k w queue head
 act_leaves k clock w call.Finish kind goes = absurd (cc)
 act_leaves k clock w _ kind goes = absurd (cc)
 
@@ -278,7 +290,7 @@ pub client_begin_step : (s : State) (k start : ℕ) (client : ClientState) (aske
     → step s (event.Begin (record { 0 = length s.core.threads + k }) start asked) ≡ Some (beside_core s.core acted)
 unfolding step client_begin
 client_begin_step s k start client asked acted client_is activity_is kind is =
-    rw (client_built asked kind, is_no_thread (length s.core.threads) k, behind (length s.core.threads) k, client_is, activity_is, self_is start, is) refl
+    rw (is_no_thread (length s.core.threads) k, behind (length s.core.threads) k, client_is, activity_is, self_is start, is) refl
 
 pub client_resume_step : (s : State) (k start : ℕ) (client : ClientState) (wait : ClientWait) (acted : Acted) → slice_get s.world.clients k ≡ Some client
     → client.activity ≡ activity.Waiting start wait → end_of_ns_wait s.core.clock wait (drained s.world) ≡ Some acted

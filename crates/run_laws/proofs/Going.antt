@@ -1,7 +1,7 @@
--- Runs go on: no serial run of a scene whose clients are honest ends before it is whole, unless it is as long as a run may be.
+-- Runs go on: no serial run of a scene ends before it is whole, unless it is as long as a run may be.
 use Rattle.std.proofs.Common.{◌≡◌, ℕ, zero, suc, ◌+◌, ◌-◌, ◌<◌, Bool, true, false, cond, List, [], ◌∷◌, length, Option, Some, None, refl, ap, sym, ◌∙◌, subst, arith, inl, inr}
 use Rattle.std.specs.Prelude.{◌⊎◌}
-use Rattle.std.specs.List.{find, list_all}
+use Rattle.std.specs.List.{find}
 use Rattle.std.proofs.lemmas.Option.{slice_get_within}
 use Rattle.kernel_values.specs.SceneLaw.{SceneValue, IsLawfulScene, scripts_of}
 use Rattle.kernel_values.specs.declared.entry.ActorStatus.{ActorStatus}
@@ -10,17 +10,16 @@ use Rattle.kernel_values.specs.declared.scene.Turn.{Turn}
 use Rattle.kernel_values.specs.declared.scene.Turn.TheVariants as turn
 use Rattle.kernel_values.specs.declared.script.Command.{Command}
 use Rattle.kernel_values.specs.declared.state.State.{State}
-use Rattle.kernel_types.specs.Carried.{is_honest}
 use Rattle.kernel_types.specs.Facts.{is_at_end, status_at}
 use Rattle.kernel_types.specs.Step.{Stepped, step, statuses, device_has_work, idle_lawful}
 use Rattle.kernel_types.specs.Turns.{Run, Outturn, ran, refused, grown, event_of, run_event, run_turn, run_from, run_by, opening_run, takes_turn, actors_in_turn, turn_or_kernel, next_turn, last_after, serial_from, serial_turns, history_limit}
 use Rattle.run_laws.proofs.Counting.{actors_stay}
-use Rattle.run_laws.proofs.SerialTurns.{from_turn, from_refused, serial_step, serial_over, serial_full, turn_grows}
+use Rattle.run_laws.proofs.SerialTurns.{from_turn, from_refused, same_ran, serial_step, serial_over, serial_full, turn_grows}
 use Rattle.run_laws.proofs.Ordering.{first_low, whole_at_end}
 use Rattle.run_laws.specs.Order.{IsBelow}
-use Rattle.run_laws.specs.Progress.{CanBeTaken, IsWholeOrFull}
+use Rattle.run_laws.specs.Progress.{CanBeTaken, IsWholeOrFull, MayTake}
 use Rattle.run_laws.proofs.Opening.{placed_at_opening}
-use Rattle.run_laws.proofs.Turning.{AtScripts, Taken, actor_taken, kernel_taken, turn_keeps}
+use Rattle.run_laws.proofs.Turning.{AtScripts, Taken, actor_taken, device_taken, idle_taken, kernel_taken, turn_keeps}
 
 -- The next turn of the serial order is taken.
 
@@ -83,9 +82,6 @@ event_counts run next (Some e) is = step_counts run next e (step run.state e) re
 turn_counts : (scripts : List (List Command)) (run next : Run) (t : Turn) → run_turn step scripts run t ≡ Some next → length (statuses next.state) ≡ length (statuses run.state)
 turn_counts scripts run next t is = event_counts run next (event_of scripts run t) is
 
-same_ran : (run result : Run) → ran run ≡ ran result → run ≡ result
-same_ran run result is = cc
-
 -- The serial run.
 
 -- what is left of it comes to a run that is whole, or has this many entries
@@ -115,12 +111,12 @@ serial_ends scripts (suc left) limit k last run left_is placed below =
     ] in
     go (next_turn run.state last) refl
 
-serial_run : (scene : SceneValue) → IsLawfulScene scene → list_all is_honest scene.clients ≡ true → (run : Run) × (run_by scene (serial_turns scene) ≡ ran run) × IsWholeOrFull run
+serial_run : (scene : SceneValue) → IsLawfulScene scene → (run : Run) × (run_by scene (serial_turns scene) ≡ ran run) × IsWholeOrFull run
 unfolding run_by serial_turns
-serial_run scene lawful honest =
+serial_run scene lawful =
     let all : history_limit ≡ history_limit - 0 = omega arith in
     let ends : Ends (run_from step (scripts_of scene) 0 (opening_run scene) (serial_from step (scripts_of scene) (history_limit - 0) None (opening_run scene))) (0 + history_limit) =
-    serial_ends (scripts_of scene) history_limit history_limit 0 None (opening_run scene) all (placed_at_opening scene lawful honest) tt in (
+    serial_ends (scripts_of scene) history_limit history_limit 0 None (opening_run scene) all (placed_at_opening scene lawful) tt in (
       ends.0,
       ap (λ n. run_from step (scripts_of scene) 0 (opening_run scene) (serial_from step (scripts_of scene) n None (opening_run scene))) all ∙ ends.1,
       elim ends.2 [
@@ -129,12 +125,12 @@ serial_run scene lawful honest =
       ],
     )
 
-pub is_run : (scene : SceneValue) → IsLawfulScene scene → list_all is_honest scene.clients ≡ true → (run : Run) × (run_by scene (serial_turns scene) ≡ ran run)
-is_run scene lawful honest = let r : (run : Run) × (run_by scene (serial_turns scene) ≡ ran run) × IsWholeOrFull run = serial_run scene lawful honest in (r.0, r.1)
+pub is_run : (scene : SceneValue) → IsLawfulScene scene → (run : Run) × (run_by scene (serial_turns scene) ≡ ran run)
+is_run scene lawful = let r : (run : Run) × (run_by scene (serial_turns scene) ≡ ran run) × IsWholeOrFull run = serial_run scene lawful in (r.0, r.1)
 
-pub whole_or_full : (scene : SceneValue) (run : Run) → IsLawfulScene scene → list_all is_honest scene.clients ≡ true → run_by scene (serial_turns scene) ≡ ran run → IsWholeOrFull run
-whole_or_full scene run lawful honest is =
-    let r : (run : Run) × (run_by scene (serial_turns scene) ≡ ran run) × IsWholeOrFull run = serial_run scene lawful honest in
+pub whole_or_full : (scene : SceneValue) (run : Run) → IsLawfulScene scene → run_by scene (serial_turns scene) ≡ ran run → IsWholeOrFull run
+whole_or_full scene run lawful is =
+    let r : (run : Run) × (run_by scene (serial_turns scene) ≡ ran run) × IsWholeOrFull run = serial_run scene lawful in
     subst (λ (result : Run). IsWholeOrFull result) (same_ran r.0 run (sym r.1 ∙ is)) r.2
 
 -- Any turns.
@@ -149,19 +145,22 @@ turns_keep scripts k run result (t ∷ turns) placed is =
     ] in
     go (run_turn step scripts run t) refl
 
-placed_after : (scene : SceneValue) (turns : List Turn) (run : Run) → IsLawfulScene scene → list_all is_honest scene.clients ≡ true → run_by scene turns ≡ ran run → AtScripts (scripts_of scene) run
+placed_after : (scene : SceneValue) (turns : List Turn) (run : Run) → IsLawfulScene scene → run_by scene turns ≡ ran run → AtScripts (scripts_of scene) run
 unfolding run_by
-placed_after scene turns run lawful honest is = turns_keep (scripts_of scene) 0 (opening_run scene) run turns (placed_at_opening scene lawful honest) is
+placed_after scene turns run lawful is = turns_keep (scripts_of scene) 0 (opening_run scene) run turns (placed_at_opening scene lawful) is
 
 can_be_taken : (scene : SceneValue) (run : Run) (t : Turn) → Taken (scripts_of scene) run t → CanBeTaken scene run t
 can_be_taken scene run t taken = (taken.next, taken.took)
 
-pub actor_takes : (scene : SceneValue) (turns : List Turn) (run : Run) (actor : ℕ) → IsLawfulScene scene → list_all is_honest scene.clients ≡ true → run_by scene turns ≡ ran run
-    → takes_turn run.state actor ≡ true → CanBeTaken scene run (turn.Actor actor)
-actor_takes scene turns run actor lawful honest is takes =
-    can_be_taken scene run (turn.Actor actor) (actor_taken (scripts_of scene) run actor (placed_after scene turns run lawful honest is) takes)
+allowed_taken : (scripts : List (List Command)) (run : Run) (t : Turn) → AtScripts scripts run → MayTake run.state t → Taken scripts run t
+allowed_taken scripts run (turn.Actor actor) placed may = actor_taken scripts run actor placed may
+allowed_taken scripts run turn.Device placed may = device_taken scripts run placed may
+allowed_taken scripts run turn.Idle placed may = idle_taken scripts run placed may
 
-pub next_takes : (scene : SceneValue) (turns : List Turn) (run : Run) (last : Option ℕ) (next : Turn) → IsLawfulScene scene → list_all is_honest scene.clients ≡ true → run_by scene turns ≡ ran run
+pub turn_takes : (scene : SceneValue) (turns : List Turn) (run : Run) (t : Turn) → IsLawfulScene scene → run_by scene turns ≡ ran run → MayTake run.state t → CanBeTaken scene run t
+turn_takes scene turns run t lawful is may = can_be_taken scene run t (allowed_taken (scripts_of scene) run t (placed_after scene turns run lawful is) may)
+
+pub next_takes : (scene : SceneValue) (turns : List Turn) (run : Run) (last : Option ℕ) (next : Turn) → IsLawfulScene scene → run_by scene turns ≡ ran run
     → next_turn run.state last ≡ Some next → CanBeTaken scene run next
-next_takes scene turns run last next lawful honest is next_is =
-    can_be_taken scene run next (next_taken (scripts_of scene) run last next (placed_after scene turns run lawful honest is) next_is)
+next_takes scene turns run last next lawful is next_is =
+    can_be_taken scene run next (next_taken (scripts_of scene) run last next (placed_after scene turns run lawful is) next_is)

@@ -1,10 +1,10 @@
--- In the state in which a scene begins, every thread and every client stands at its beginning; those of an honest scene at their scripts.
+-- In the state in which a scene begins, every thread and every client stands at its beginning, and at its script.
 use Rattle.std.proofs.Common.{◌≡◌, ℕ, zero, suc, ◌+◌, ◌<◌, ◌≤◌, Bool, true, false, cond, List, [], ◌∷◌, ◌++◌, length, map, Some, refl, ap, sym, ◌∙◌, subst, arith, inl, inr, length-append}
 use Rattle.std.proofs.lemmas.List.{length-map}
 use Rattle.std.specs.Prelude.{◌⊎◌, slice_get, ◌&&◌}
 use Rattle.std.specs.List.{flat_map, enumerate_from, list_all}
 use Rattle.kernel_values.specs.Commands.{can_be_spelled}
-use Rattle.kernel_values.specs.CallKinds.{is_client_call, is_thread_call, is_honest_call, is_of_client, is_of_thread}
+use Rattle.kernel_values.specs.CallKinds.{is_client_call, is_thread_call, is_of_client, is_of_thread}
 use Rattle.kernel_values.specs.SceneLaw.{SceneValue, IsLawfulScene, scripts_of, is_lawful_app, is_lawful_client, is_lawful_client_command, is_lawful_thread_command}
 use Rattle.kernel_values.specs.Words.{is_name}
 use Rattle.kernel_values.specs.declared.scene.App.{App}
@@ -16,7 +16,6 @@ use Rattle.kernel_values.specs.declared.state.Activity.TheVariants as activity
 use Rattle.kernel_values.specs.declared.state.Application.{Application}
 use Rattle.kernel_values.specs.declared.state.Thread.{Thread}
 use Rattle.kernel_values.specs.declared.world.ClientState.{ClientState}
-use Rattle.kernel_types.specs.Carried.{is_honest}
 use Rattle.kernel_types.specs.Opening.{opening, opening_app, opening_starts, opening_activity, opening_threads, opening_client}
 use Rattle.kernel_types.specs.CoreStep.{status_of}
 use Rattle.kernel_types.specs.Turns.{opening_run}
@@ -160,12 +159,11 @@ module _ (S : Standings) where
 
 -- Each client stands behind the threads, and has its script.
 
-client_callable : (client : Client) → is_lawful_client client ≡ true → is_honest client ≡ true → IsCallable is_of_client client.script
-client_callable client lawful honest place command is =
+client_callable : (client : Client) → is_lawful_client client ≡ true → IsCallable is_of_client client.script
+client_callable client lawful place command is =
     let lawful_script : list_all is_lawful_client_command client.script ≡ true = second_of (is_name client.name) (list_all is_lawful_client_command client.script) lawful in
     let lawful_command : is_lawful_client_command command ≡ true = all_at is_lawful_client_command client.script place command lawful_script is in
-    let honest_command : is_honest_call command.call ≡ true = all_at (λ (c : Command). is_honest_call c.call) client.script place command honest is in
-    by_client command.call (first_of (is_client_call command.call) (can_be_spelled command.call) lawful_command) honest_command
+    by_client command.call (first_of (is_client_call command.call) (can_be_spelled command.call) lawful_command)
 
 get_front : {X : Type 0} (xs more : List X) (k : ℕ) (x : X) → slice_get xs k ≡ Some x → slice_get (xs ++ more) k ≡ Some x
 get_front [] more k x is = absurd (cc)
@@ -176,8 +174,8 @@ none_before : (k start : ℕ) → answers_in k start [] ≡ []
 unfolding answers_in
 none_before k start = refl
 
-pub placed_at_opening : (scene : SceneValue) → IsLawfulScene scene → list_all is_honest scene.clients ≡ true → AtScripts (scripts_of scene) (opening_run scene)
-placed_at_opening scene lawful honest =
+pub placed_at_opening : (scene : SceneValue) → IsLawfulScene scene → AtScripts (scripts_of scene) (opening_run scene)
+placed_at_opening scene lawful =
     let clients : List (List Command) = map (λ (c : Client). c.script) scene.clients in
     everyone_opened (at_scripts (scripts_of scene)) scene
     (λ k thread o. record {
@@ -189,6 +187,6 @@ placed_at_opening scene lawful honest =
       script = client.script;
       script_is = ap (λ n. slice_get (scripts_of scene) (n + k)) (threads_many 0 scene.apps)
           ∙ (get_behind (thread_scripts scene.apps) clients k ∙ get_map (λ (c : Client). c.script) scene.clients k client is);
-      callable = client_callable client (all_at is_lawful_client scene.clients k client lawful.clients is) (all_at is_honest scene.clients k client honest is);
+      callable = client_callable client (all_at is_lawful_client scene.clients k client lawful.clients is);
     })
     (λ k s past. none_before k s)

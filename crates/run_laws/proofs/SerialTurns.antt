@@ -1,10 +1,11 @@
 -- Lists of turns, and the serial turns, one by one.
-use Rattle.std.proofs.Common.{◌≡◌, ℕ, zero, suc, ◌+◌, ◌-◌, ◌<◌, ◌≤◌, List, [], ◌∷◌, length, Option, Some, None, refl, ap, sym, ◌∙◌, arith, length-append}
+use Rattle.std.proofs.Common.{◌≡◌, ℕ, zero, suc, ◌+◌, ◌-◌, ◌<◌, ◌≤◌, List, [], ◌∷◌, ◌++◌, length, Option, Some, None, refl, ap, sym, ◌∙◌, arith, length-append}
+use Rattle.kernel_values.specs.SceneLaw.{SceneValue, scripts_of}
 use Rattle.kernel_values.specs.declared.entry.Event.{Event}
 use Rattle.kernel_values.specs.declared.scene.Turn.{Turn}
 use Rattle.kernel_values.specs.declared.script.Command.{Command}
 use Rattle.kernel_types.specs.Step.{Stepped, step}
-use Rattle.kernel_types.specs.Turns.{Run, Outturn, ran, refused, grown, event_of, run_event, run_turn, run_from, serial_from, next_turn, last_after}
+use Rattle.kernel_types.specs.Turns.{Run, Outturn, ran, refused, grown, event_of, opening_run, run_by, run_event, run_turn, run_from, serial_from, next_turn, last_after}
 
 -- a turn that was taken is one entry more
 
@@ -36,6 +37,29 @@ from_refused scripts k run t turns is = ap (λ (r : Option Run). elim r as (λ _
   | None ↦ refused k
   | Some after ↦ run_from step scripts (k + 1) after turns
 ]) is
+
+-- one turn behind a list
+
+pub same_ran : (run result : Run) → ran run ≡ ran result → run ≡ result
+same_ran run result is = cc
+
+from_more : (scripts : List (List Command)) (k : ℕ) (first run next : Run) (turns : List Turn) (t : Turn) → run_from step scripts k first turns ≡ ran run
+    → run_turn step scripts run t ≡ Some next → run_from step scripts k first (turns ++ t ∷ []) ≡ ran next
+from_more scripts k first run next [] t is took =
+    from_turn scripts k first next t [] (ap (λ (r : Run). run_turn step scripts r t) (same_ran first run is) ∙ took)
+from_more scripts k first run next (u ∷ turns) t is took =
+    let go : (o : Option Run) → run_turn step scripts first u ≡ o → run_from step scripts k first (u ∷ (turns ++ t ∷ [])) ≡ ran next =
+    λ o. elim o as (λ v. run_turn step scripts first u ≡ v → run_from step scripts k first (u ∷ (turns ++ t ∷ [])) ≡ ran next) [
+      | None ↦ λ none. let stopped : run_from step scripts k first (u ∷ turns) ≡ refused k = from_refused scripts k first u turns none in absurd (cc)
+      | Some mid ↦ λ went. from_turn scripts k first mid u (turns ++ t ∷ []) went
+          ∙ from_more scripts (k + 1) mid run next turns t (sym (from_turn scripts k first mid u turns went) ∙ is) took
+    ] in
+    go (run_turn step scripts first u) refl
+
+pub run_more : (scene : SceneValue) (turns : List Turn) (run next : Run) (t : Turn) → run_by scene turns ≡ ran run → run_turn step (scripts_of scene) run t ≡ Some next
+    → run_by scene (turns ++ t ∷ []) ≡ ran next
+unfolding run_by
+run_more scene turns run next t is took = from_more (scripts_of scene) 0 (opening_run scene) run next turns t is took
 
 -- the serial turns, one by one
 

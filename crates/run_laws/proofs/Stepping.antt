@@ -29,7 +29,6 @@ use Rattle.kernel_types.proofs.Actors.{thread_is_thread}
 use Rattle.step_laws.proofs.Leaving.{Quiet, starts_of}
 use Rattle.step_laws.specs.Walks.{is_ending}
 use Rattle.run_laws.proofs.Acting.{Upheld, act_upholds}
-use Rattle.run_laws.proofs.Callers.{thread_built}
 use Rattle.kernel_values.specs.CallKinds.{is_of_thread}
 use Rattle.run_laws.proofs.Longer.{FitsCall, IsOf, all_longer, begin_is_of, but_longer, entry_with, resume_is_of, self_is}
 use Rattle.run_laws.proofs.Places.{AllBut, AllStand, OthersFit, all_changed, all_with, apart, ended_stands, idle_stands, quiet_but, quiet_stands, same_start_ended, same_start_running, same_start_waiting, start_of, started_stands}
@@ -163,7 +162,7 @@ pub begin_step : (s : State) (k start : ℕ) (thread : Thread) (asked : Call) (o
     → is_of_thread asked ≡ true → act s.core k thread.app asked ≡ Some outcome → step s (event.Begin (record { 0 = k }) start asked) ≡ Some (in_world s.world (swept outcome))
 unfolding step core_begin
 begin_step s k start thread asked outcome thread_is activity_is kind is =
-    rw (thread_built asked kind, thread_is_thread s k thread thread_is, thread_is, activity_is, self_is start, is) refl
+    rw (thread_is_thread s k thread thread_is, thread_is, activity_is, self_is start, is) refl
 
 pub resume_step : (s : State) (k start : ℕ) (thread : Thread) (w : Wait) (outcome : Outcome) → slice_get s.core.threads k ≡ Some thread → thread.activity ≡ activity.Waiting start w
     → end_of_wait s.core thread.app w ≡ Some outcome → step s (event.Resume (record { 0 = k }) start) ≡ Some (in_world s.world (resumed k outcome))

@@ -205,7 +205,7 @@ device_by scripts run None is works placed = absurd (cc)
 device_by scripts run (Some done) is works placed =
     taken_at scripts run turn.Device event.Device (device_stepped done) refl (device_turns (at_scripts scripts) run.entries run.state placed done is)
 
-device_taken : (scripts : List (List Command)) (run : Run) → AtScripts scripts run → device_has_work run.state ≡ true → Taken scripts run turn.Device
+pub device_taken : (scripts : List (List Command)) (run : Run) → AtScripts scripts run → device_has_work run.state ≡ true → Taken scripts run turn.Device
 unfolding device_has_work
 device_taken scripts run placed works = device_by scripts run (device_step run.state) refl works placed
 
