@@ -4,5 +4,5 @@ pub mod Loans
 pub mod Sweeps
 pub mod Roots
 pub mod Naming
-pub mod Parts
+pub mod Quiet
 pub mod Installs

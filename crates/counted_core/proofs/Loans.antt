@@ -6,7 +6,6 @@ use Rattle.kernel_values.specs.declared.state.Body.{Body}
 use Rattle.kernel_types.specs.Objects.{is_there}
 use Rattle.object_store.specs.Stock.{Held, IsSoundFrom, changed, held_at, names_at, value_at, with_value}
 use Rattle.counted_core.specs.Held.{changed_if, lists, lists_at, objects_of, on_value}
-use Rattle.counted_core.specs.Sweeping.{NoneDead}
 use Rattle.counted_core.proofs.Owing.{absent_names}
 use Rattle.counted_core.proofs.Drops.{changed_value, unchanged}
 
@@ -40,14 +39,6 @@ above_absent low next (h ∷ rest) o sound le =
     let below : h.serial < next = sound.1 in
     let other : (h.serial == o) ≡ false = grind (arith, tests) in
     ap (λ b. b || is_there (objects_of rest) o) other ∙ above_absent (h.serial + 1) next rest o sound.3 le
-
-pub none_dead : (items : List (Held Body)) (next x : ℕ) → IsSoundFrom 0 items next → ((o : ℕ) → o < x → names_at items o ≡ 1 → ⊥) → next ≤ x → NoneDead items
-none_dead items next x sound none le o one =
-    let split : (o < x) ⊎ (x ≤ o) = grind arith in
-    elim split [
-      | inl lt ↦ none o lt one
-      | inr ge ↦ let zero_names : names_at items o ≡ 0 = absent_names items o (above_absent 0 next items o sound (omega (arith, ge, le))) in absurd (omega (arith, one, zero_names))
-    ]
 
 pub none_lists : (items : List (Held Body)) (next x server : ℕ) → IsSoundFrom 0 items next → ((o : ℕ) → o < x → lists_at items o server ≡ false) → next ≤ x → (o : ℕ) → lists_at items o server ≡ false
 none_lists items next x server sound none le o =

@@ -118,29 +118,33 @@ name_one low next s (h ∷ rest) sound =
     let one : 1 ≤ h.names = sound.2 in
     let few : 1 ≤ h.names + 1 = omega arith in
     subst (λ (l : List (Held Body)). (IsSoundFrom low (one_more h ∷ l) next) × (objects_of (one_more h ∷ l) ≡ objects_of (h ∷ rest))
-        × ((o : ℕ) → names_at (one_more h ∷ l) o ≡ names_at (h ∷ rest) o + cond (s == o) (cond (is_there (objects_of (h ∷ rest)) o) 1 0) 0)
-        × (total_names (one_more h ∷ l) ≤ total_names (h ∷ rest) + 1)) (sym same)
-    ((sound.0, sound.1, few, sound.3), refl,
-    (λ o.
-    let none : (s == o) ≡ true → names_at rest o ≡ 0 = λ f. let same_o : s ≡ o = grind (arith, tests) in subst (λ k. names_at rest k ≡ 0) same_o (absent_names rest s gone) in
-    let test : (h.serial == o) ≡ (s == o) = ap (λ k. k == o) eq in
-    let Q : Bool → Type 0 = λ b. cond b (h.names + 1) (names_at rest o) ≡ cond b h.names (names_at rest o) + cond b (cond (b || is_there (objects_of rest) o) 1 0) 0 in
-    let run : (b : Bool) → Q b = λ b. elim b as (λ v. Q v) [ true ↦ refl | false ↦ omega arith ] in
-    names_first (one_more h) rest o ∙ (ap (λ (b : Bool). cond b (h.names + 1) (names_at rest o)) test ∙ (run (s == o)
-    ∙ (ap (λ (b : Bool). cond b h.names (names_at rest o) + cond (s == o) (cond (b || is_there (objects_of rest) o) 1 0) 0) (sym test) ∙ ap (λ k. k + cond (s == o) (cond ((h.serial == o) || is_there (objects_of rest) o) 1 0) 0) (sym (names_first h rest o)))))),
-    omega (arith, total_first (one_more h) rest, total_first h rest)) in
+    × ((o : ℕ) → names_at (one_more h ∷ l) o ≡ names_at (h ∷ rest) o + cond (s == o) (cond (is_there (objects_of (h ∷ rest)) o) 1 0) 0)
+    × (total_names (one_more h ∷ l) ≤ total_names (h ∷ rest) + 1)) (sym same) (
+      (sound.0, sound.1, few, sound.3),
+      refl,
+      (λ o.
+          let none : (s == o) ≡ true → names_at rest o ≡ 0 = λ f. let same_o : s ≡ o = grind (arith, tests) in subst (λ k. names_at rest k ≡ 0) same_o (absent_names rest s gone) in
+          let test : (h.serial == o) ≡ (s == o) = ap (λ k. k == o) eq in
+          let Q : Bool → Type 0 = λ b. cond b (h.names + 1) (names_at rest o) ≡ cond b h.names (names_at rest o) + cond b (cond (b || is_there (objects_of rest) o) 1 0) 0 in
+          let run : (b : Bool) → Q b = λ b. elim b as (λ v. Q v) [ true ↦ refl | false ↦ omega arith ] in
+          names_first (one_more h) rest o ∙ (ap (λ (b : Bool). cond b (h.names + 1) (names_at rest o)) test ∙ (run (s == o)
+          ∙ (ap (λ (b : Bool). cond b h.names (names_at rest o) + cond (s == o) (cond (b || is_there (objects_of rest) o) 1 0) 0) (sym test) ∙ ap (λ k. k + cond (s == o) (cond ((h.serial == o) || is_there (objects_of rest) o) 1 0) 0) (sym (names_first h rest o)))))),
+      omega (arith, total_first (one_more h) rest, total_first h rest),
+    ) in
     let later : P false = λ e.
-    let more : More (h.serial + 1) next s rest = name_one (h.serial + 1) next s rest sound.3 in
-    ((sound.0, sound.1, sound.2, more.sound), ap (λ l. object_of_held h ∷ l) more.same,
-    (λ o.
-    let other : (h.serial == o) ≡ true → (s == o) ≡ false = λ f. grind (arith, tests) in
-    let Q : Bool → Type 0 = λ b. (h.serial == o) ≡ b → cond b h.names (names_at (named_more rest s) o) ≡ cond b h.names (names_at rest o) + cond (s == o) (cond (b || is_there (objects_of rest) o) 1 0) 0 in
-    let run : (b : Bool) → Q b = λ b. elim b as (λ v. Q v) [
-      | true ↦ (λ f. let plus : h.names ≡ h.names + 0 = omega arith in plus ∙ sym (ap (λ (b : Bool). h.names + cond b 1 0) (other f)))
-      | false ↦ (λ f. more.names o)
-    ] in
-    names_first h (named_more rest s) o ∙ (run (h.serial == o) refl ∙ ap (λ k. k + cond (s == o) (cond ((h.serial == o) || is_there (objects_of rest) o) 1 0) 0) (sym (names_first h rest o)))),
-    omega (arith, total_first h (named_more rest s), total_first h rest, more.total)) in
+    let more : More (h.serial + 1) next s rest = name_one (h.serial + 1) next s rest sound.3 in (
+      (sound.0, sound.1, sound.2, more.sound),
+      ap (λ l. object_of_held h ∷ l) more.same,
+      (λ o.
+          let other : (h.serial == o) ≡ true → (s == o) ≡ false = λ f. grind (arith, tests) in
+          let Q : Bool → Type 0 = λ b. (h.serial == o) ≡ b → cond b h.names (names_at (named_more rest s) o) ≡ cond b h.names (names_at rest o) + cond (s == o) (cond (b || is_there (objects_of rest) o) 1 0) 0 in
+          let run : (b : Bool) → Q b = λ b. elim b as (λ v. Q v) [
+            | true ↦ (λ f. let plus : h.names ≡ h.names + 0 = omega arith in plus ∙ sym (ap (λ (b : Bool). h.names + cond b 1 0) (other f)))
+            | false ↦ (λ f. more.names o)
+          ] in
+          names_first h (named_more rest s) o ∙ (run (h.serial == o) refl ∙ ap (λ k. k + cond (s == o) (cond ((h.serial == o) || is_there (objects_of rest) o) 1 0) 0) (sym (names_first h rest o)))),
+      omega (arith, total_first h (named_more rest s), total_first h rest, more.total),
+    ) in
     let go : (b : Bool) → P b = λ b. elim b as (λ v. P v) [ true ↦ here | false ↦ later ] in
     let done : P (h.serial == s) = go (h.serial == s) in
     let out = done refl in

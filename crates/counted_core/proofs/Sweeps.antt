@@ -8,12 +8,12 @@ use Rattle.kernel_values.specs.declared.state.CoreState.{CoreState}
 use Rattle.kernel_values.specs.declared.state.Object.{Object}
 use Rattle.kernel_types.specs.Names.{Name, held_by, named_in, names_of, naming, object_names}
 use Rattle.kernel_types.specs.Objects.{is_there, on_end, on_port}
-use Rattle.object_store.specs.Stock.{Held, IsSoundFrom, changed, held_at, last_at, last_named, less_on, names_at, one_fewer, one_less, unnamed}
+use Rattle.object_store.specs.Stock.{NoneDead, Held, IsSoundFrom, changed, held_at, last_at, last_named, less_on, names_at, one_fewer, one_less, unnamed}
 use Rattle.count_laws.specs.Dropping.{IsLeft, Ranked, cut_from, dropped, unlisted}
 use Rattle.count_laws.specs.Thinning.{Fit, NamedThere}
 use Rattle.count_laws.proofs.Dropping.{all_left, drops_on, ends_swept, left_fits, left_ranked}
 use Rattle.counted_core.specs.Held.{IsOwed, changed_if, dropped_items, listed_by, objects_of, on_value, peer_in, tally, times}
-use Rattle.counted_core.specs.Sweeping.{HasDropped, HasDroppedTo, IsCounted, IsSweeping, IsSwept, NoneDead, Swept, Sweeping, at, rooted, roots}
+use Rattle.counted_core.specs.Sweeping.{HasDropped, HasDroppedTo, IsCounted, IsSweeping, IsSwept, Swept, Sweeping, at, rooted, roots}
 use Rattle.counted_core.proofs.Owing.{absent_names}
 use Rattle.counted_core.proofs.Drops.{Dropped, drops}
 

@@ -1,21 +1,25 @@
 //! The core with its counts: at every moment it stands for one state of the model, in which each object's count is exact.
 
-ghost use Rattle.std.specs.Prelude.{◌≡◌, map, IsSome, OnOk, OnErr, Some, is_some, option_copied};
-ghost use Rattle.std.specs.List.{fold};
+ghost use Rattle.std.specs.Prelude.{◌≡◌, IsSome, OnOk, OnErr, Some, option_copied};
+ghost use Rattle.std.specs.Option.{is_some, option_map};
+ghost use Rattle.handle_table.specs.Places.{slot_entry};
 ghost use Rattle.kernel_types.specs.Sweep.{sweep};
-ghost use Rattle.kernel_types.specs.Tables.{table_of, entry_at, remove_entry};
-ghost use Rattle.object_store.specs.Stock.{unnamed, value_at};
+ghost use Rattle.kernel_types.specs.Reports.{with_last_reported};
+ghost use Rattle.kernel_types.specs.Tables.{entry_at, remove_entry, table_of, with_cookie, with_table};
+ghost use Rattle.object_store.specs.Stock.{value_at};
 ghost use Rattle.count_laws.specs.Dropping.{Ranked};
 ghost use Rattle.count_laws.specs.Thinning.{Fit};
-ghost use Rattle.counted_core.specs.Sweeping.{removed};
 ghost use Rattle.counted_core.specs.Sending.{AllThere, end_if, memory_if};
-ghost use Rattle.kernel_types.specs.Messages.{blocked_end, with_message};
-ghost use Rattle.kernel_types.specs.Objects.{end_changed, end_of, memory_of, on_end};
-ghost use Rattle.counted_core.specs.Held.{changed_if};
+ghost use Rattle.kernel_types.specs.Messages.{with_message};
+ghost use Rattle.kernel_types.specs.Objects.{end_changed, end_of, memory_of};
+ghost use Rattle.counted_core.specs.EndChanges.{end_after};
 
+use crate::apps::AppState;
+use crate::ends::{EndChange, change_in};
 use crate::pushes::{name_all, push_message};
 use crate::sweep::{self, key_of};
-use kernel_values::{Application, Body, Bytes, ChannelEnd, Items, NoMemory, TableEntry, Thread};
+use handle_table::Slot;
+use kernel_values::{Body, Bytes, ChannelEnd, Items, NoMemory, Thread};
 use object_store::Store;
 use std::alloc::Global;
 use std::marker::Model;
@@ -23,7 +27,7 @@ use std::marker::Model;
 /// A state of the model. Each object's count is how often it is named, and one more for the store.
 #[derive(Drop)]
 pub struct CountedCore {
-    apps: Items<Application>,
+    apps: Items<AppState>,
     threads: Items<Thread>,
     store: Store<Body>,
     clock: u64,
@@ -39,30 +43,6 @@ impl Model for CountedCore {
     ghost view = { λ k. core_of k.apps k.threads k.store.items k.store.next k.clock k.bridged };
 
     ghost invariant = { λ k. IsCounted (core_of k.apps k.threads k.store.items k.store.next k.clock k.bridged) k.store.items };
-}
-
-/// The objects of the entries of the number are named less.
-fn unname_entries(store: &mut Store<Body>, table: &[TableEntry], handle: u32)
-    ensures items { store.new.items ≡ fold unnamed store.old.items (removed table.now handle) }
-    ensures next { store.new.next ≡ store.old.next }
-{
-    for entry in table {
-        if entry.handle == handle {
-            store.unname(key_of(entry.object));
-        }
-    }
-}
-
-/// The entry of a number, where there is one.
-pub fn find_entry(table: &[TableEntry], handle: u32) -> Option<TableEntry>
-    ensures { result ≡ entry_at table.now handle }
-{
-    for entry in table {
-        if entry.handle == handle {
-            return Some(*entry);
-        }
-    }
-    None
 }
 
 fn end_at(store: &Store<Body>, id: u64) -> Option<&ChannelEnd>
@@ -83,34 +63,14 @@ fn is_memory_at(store: &Store<Body>, id: u64) -> bool
     }
 }
 
-fn block(body: &mut Body)
-    ensures { body.new ≡ on_end blocked_end body.old }
-{
-    if let Body::End(end) = body {
-        end.blocked = true;
-        end.unblocked = false;
-    }
-}
-
-fn block_in(store: &mut Store<Body>, id: u64)
-    ensures items { store.new.items ≡ changed_if (on_end blocked_end) (Some id) store.old.items }
-    ensures next { store.new.next ≡ store.old.next }
-{
-    store.sound();
-    let Some(body) = store.get_mut(key_of(id)) else {
-        return;
-    };
-    block(body);
-}
-
 impl CountedCore {
-    /// The table of an application; an application that is not there has an empty one.
-    pub fn table_of(&self, app: u32) -> &[TableEntry]
-        ensures { result.now ≡ table_of self.now app }
+    /// What a number of the application stands for, where it is in use.
+    pub fn get(&self, app: u32, handle: u32) -> Option<Slot>
+        ensures { option_map (slot_entry handle) result ≡ entry_at (table_of self.now app) handle }
     {
         match self.apps.get(app as usize) {
-            Some(application) => application.table.as_slice(),
-            None => &[],
+            Some(state) => state.get(handle),
+            None => None,
         }
     }
 
@@ -132,12 +92,12 @@ impl CountedCore {
         is_memory_at(&self.store, id)
     }
 
-    /// The end is blocked.
-    pub fn block_end(&mut self, id: u64)
-        ensures { self.new ≡ end_changed blocked_end id self.old }
+    /// One end is changed, where there is one of this number. Takes no memory.
+    pub fn change_end(&mut self, id: u64, change: EndChange)
+        ensures { self.new ≡ end_changed (end_after change) id self.old }
     {
         self.store.sound();
-        block_in(&mut self.store, id);
+        change_in(&mut self.store, id, change);
     }
 
     /// The number goes from the application's table. Takes no memory.
@@ -145,11 +105,34 @@ impl CountedCore {
         ensures { self.new ≡ remove_entry app handle self.old }
     {
         self.store.sound();
-        let Some(application) = self.apps.get_mut(app as usize) else {
+        let Some(state) = self.apps.get_mut(app as usize) else {
             return;
         };
-        unname_entries(&mut self.store, application.table.as_slice(), handle);
-        application.table.retain(|entry| entry.handle != handle);
+        state.sound();
+        let Some(slot) = state.take(handle) else {
+            return;
+        };
+        self.store.unname(slot.key);
+    }
+
+    /// Another cookie is kept with the number. Takes no memory.
+    pub fn set_cookie(&mut self, app: u32, handle: u32, cookie: u64)
+        ensures { self.new ≡ with_table (λ table. with_cookie table handle cookie) app self.old }
+    {
+        let Some(state) = self.apps.get_mut(app as usize) else {
+            return;
+        };
+        state.set_cookie(handle, cookie);
+    }
+
+    /// The number that a wait for any reported last is noted. Takes no memory.
+    pub fn set_last(&mut self, app: u32, handle: u32)
+        ensures { self.new ≡ with_last_reported app handle self.old }
+    {
+        let Some(state) = self.apps.get_mut(app as usize) else {
+            return;
+        };
+        state.set_last(handle);
     }
 
     /// The message comes to the end of this number, and its parts are named once more. Refused, all stands as before.
