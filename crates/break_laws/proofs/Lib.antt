@@ -13,3 +13,4 @@ mod StayingChanges
 mod HeldChanges
 mod Apart
 mod Histories
+mod Worked
