@@ -13,13 +13,12 @@ import glob
 import random
 import sys
 
-from replay_runs import FOLDERS, PROGRAM, actors, printed, without_turns
+from replay_runs import FOLDERS, PROGRAM, actors, printed, with_turns, without_turns
 
 
 def replayed(program, scene, turns):
     """What `replay` prints of these turns, or the number of the turn that it refuses."""
-    listed = b"".join(b" ".join(turns[at:at + 100]) + b"\n" for at in range(0, len(turns), 100))
-    status, said = printed(program, "replay", scene + b"turns\n" + listed)
+    status, said = printed(program, "replay", with_turns(scene, turns))
     if status == 0:
         return said, None
     if status != 7:

@@ -28,17 +28,17 @@ use Rattle.std.specs.List.{filter, find, fold, flat_map, range_with_len}
 use Rattle.byteorder.specs.Endian.{little_bytes}
 
 abbrev pub is_page : ℕ → ℕ → Bool
-is_page k page = page % 16384 == k
+is_page k page = page % 65536 == k
 
 abbrev pub content : Option ℕ → ℕ
 content None = 0
-content (Some page) = page / 16384
+content (Some page) = page / 65536
 
 abbrev pub content_of : List ℕ → ℕ → ℕ
 content_of memory k = content (find (is_page k) memory)
 
 abbrev pub with_content : ℕ → ℕ → List ℕ → List ℕ
-with_content k number memory = (number * 16384 + k) ∷ filter (λ page. not (is_page k page)) memory
+with_content k number memory = (number * 65536 + k) ∷ filter (λ page. not (is_page k page)) memory
 
 -- the number in two pages
 abbrev pub content_from : List ℕ → ℕ → ℕ

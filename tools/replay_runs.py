@@ -65,6 +65,11 @@ def turns(history, numbers):
     return listed
 
 
+def with_turns(scene, listed):
+    """The scene with these turns behind it, a hundred a line."""
+    return scene + b"turns\n" + b"".join(b" ".join(listed[at:at + 100]) + b"\n" for at in range(0, len(listed), 100))
+
+
 def main():
     parser = argparse.ArgumentParser(description=__doc__, formatter_class=argparse.RawDescriptionHelpFormatter)
     parser.add_argument("--program", default=PROGRAM)
@@ -89,8 +94,7 @@ def main():
                 print(f"{path}: hangs")
                 continue
             unlike += history != serial
-            listed = turns(history, numbers)
-            replayed = scene + b"turns\n" + b"".join(b" ".join(listed[at:at + 100]) + b"\n" for at in range(0, len(listed), 100))
+            replayed = with_turns(scene, turns(history, numbers))
             if status != 0 or printed(words.program, "replay", replayed) != (0, history):
                 otherwise += 1
                 print(f"{path}: status {status}, or replayed otherwise")

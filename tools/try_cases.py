@@ -46,7 +46,7 @@ SHOWN_IMPORTS = [
     DECLARED + ".state.State.{State}",
     "Rattle.kernel_values.specs.SceneLaw.{SceneValue}",
     "Rattle.kernel_types.specs.Opening.{opening}",
-    "Rattle.kernel_types.specs.Step.{full_step}",
+    "Rattle.kernel_types.specs.Step.{step}",
     DECLARED + ".reply.Answer.{Answer}",
     DECLARED + ".entry.Entry.{Entry}",
     DECLARED + ".entry.Event.{Event}",
@@ -57,9 +57,9 @@ SHOWN_IMPORTS = [
 ]
 SCENE = "SceneValue"                    # what contracts see of a scene
 SERIAL = "serial_run"                   # SCENE → Run
-REPLAY = "full_replay"                  # SCENE → Outturn
+REPLAY = "replay_of"                    # SCENE → Outturn
 TURNS = {"D": "turn.Device", "I": "turn.Idle"}
-DEFINITIONS = ["Rattle.kernel_types.specs.Serial.{serial_run, full_replay}", "Rattle.kernel_types.specs.Turns.{ran, refused, opening_run}"]
+DEFINITIONS = ["Rattle.kernel_types.specs.Serial.{serial_run}", "Rattle.kernel_types.specs.Turns.{ran, refused, opening_run, replay_of}"]
 UNFOLDING = ["kernel_on_literals"]      # opens every definition that a history needs
 UNFOLDING_IMPORTS = ["Rattle.kernel_types.specs.OnLiterals.{kernel_on_literals}"]
 FLAGS = "record {{ 0 = {} }}"           # a flag type, from its bits
@@ -457,7 +457,7 @@ replayed (refused k) = Stopped k
 -- What the other forms print: the objects and names after each entry, and the entries by their kinds.
 abbrev pub counts_from : State → List Entry → List (ℕ × ℕ)
 counts_from s [] = []
-counts_from s (entry ∷ entries) = elim (full_step s entry.event) as (λ _. List (ℕ × ℕ)) [
+counts_from s (entry ∷ entries) = elim (step s entry.event) as (λ _. List (ℕ × ℕ)) [
       | None ↦ []
       | Some stepped ↦ ((end_facts stepped.state).objects, (end_facts stepped.state).names) ∷ counts_from stepped.state entries ]
 

@@ -34,80 +34,9 @@ use Rattle.kernel_types.specs.declared.bridge.EndView.{EndView}
 use Rattle.step_laws.proofs.BridgeLeaving.{push_leaves, take_leaves}
 use Rattle.bridge_laws.proofs.Core.{connect_names, drop_names}
 use Rattle.bridge_laws.proofs.Counts.{one_if, times, times_apart, times_cons, times_fewer, times_gone}
-use Rattle.bridge_laws.proofs.Entries.{Bridged, IsOneOf, bridged_answered, bridged_less, bridged_more, nothing_bridged}
-
--- What is due of an entry is due of one of the entries.
-
-abbrev IsDueOf : List BridgeEntry → Option Due → Type 0
-IsDueOf entries (Some (denying entry)) = IsOneOf entry entries
-IsDueOf entries (Some (leaving entry)) = IsOneOf entry entries
-IsDueOf entries other = Unit {0}
-
-due_later : (first : BridgeEntry) (entries : List BridgeEntry) (o : Option Due) → IsDueOf entries o → IsDueOf (first ∷ entries) o
-due_later first entries None is = tt
-due_later first entries (Some going_online) is = tt
-due_later first entries (Some (refusing refusal)) is = tt
-due_later first entries (Some (answering entry view)) is = tt
-due_later first entries (Some (denying entry)) is = inr is
-due_later first entries (Some (sending entry bytes)) is = tt
-due_later first entries (Some (leaving entry)) is = inr is
-
-unanswered_of : (entry : BridgeEntry) (entries : List BridgeEntry) (view : EndView) → IsDueOf (entry ∷ entries) (unanswered_due entry view)
-unanswered_of entry entries view =
-    let all : List BridgeEntry = entry ∷ entries in
-    let closed : IsDueOf all (cond (is_disconnected view.state) (Some (denying entry)) None) =
-    elim (is_disconnected view.state) as (λ b. IsDueOf all (cond b (Some (denying entry)) None)) [ true ↦ inl refl | false ↦ tt ] in
-    elim view.accepted as (λ b. IsDueOf all (cond b (Some (answering entry view)) (cond (is_disconnected view.state) (Some (denying entry)) None))) [ true ↦ tt | false ↦ closed ]
-
-answered_of : (entry : BridgeEntry) (entries : List BridgeEntry) (view : EndView) (peeked : Option (List ℕ)) → IsDueOf (entry ∷ entries) (answered_due entry view peeked)
-answered_of entry entries view (Some bytes) = tt
-answered_of entry entries view None =
-    elim (is_disconnected view.state) as (λ b. IsDueOf (entry ∷ entries) (cond b (Some (leaving entry)) None)) [ true ↦ inl refl | false ↦ tt ]
-
-entry_of_due : (c : CoreState) (entry : BridgeEntry) (entries : List BridgeEntry) → IsDueOf (entry ∷ entries) (entry_due c entry)
-entry_of_due c entry entries =
-    elim entry.answered as (λ b. IsDueOf (entry ∷ entries) (cond b (answered_due entry (ns_view c entry.end) (ns_peek c entry.end)) (unanswered_due entry (ns_view c entry.end)))) [
-      | true ↦ answered_of entry entries (ns_view c entry.end) (ns_peek c entry.end)
-      | false ↦ unanswered_of entry entries (ns_view c entry.end)
-    ]
-
--- the first of them
-first_of : (c : CoreState) (entries : List BridgeEntry) → IsDueOf entries (slice_get (filter_map (entry_due c) entries) 0)
-first_of c [] = tt
-first_of c (entry ∷ entries) =
-    let P : Option Due → Type 0 = λ o. IsDueOf (entry ∷ entries) o → IsDueOf (entry ∷ entries) (slice_get (cons_option o (filter_map (entry_due c) entries)) 0) in
-    let go : (o : Option Due) → P o = λ o. elim o as (λ v. P v) [
-      | None ↦ (λ is. due_later entry entries (slice_get (filter_map (entry_due c) entries) 0) (first_of c entries))
-      | Some due ↦ (λ is. is)
-    ] in
-    go (entry_due c entry) (entry_of_due c entry entries)
-
-queued_of : (c : CoreState) (entries : List BridgeEntry) (refusals : List Refusal) → IsDueOf entries (queued_due c entries refusals)
-queued_of c entries (refusal ∷ refusals) = tt
-queued_of c entries [] = first_of c entries
-
-due_of_entries : (c : CoreState) (d : Device) → IsDueOf d.entries (due_of c d)
-unfolding due_of
-due_of_entries c d =
-    elim d.online as (λ b. IsDueOf d.entries (cond b (queued_due c d.entries d.refusals) (Some going_online))) [ true ↦ queued_of c d.entries d.refusals | false ↦ tt ]
-
--- A search finds one of the entries.
-
-abbrev IfFound : List BridgeEntry → Option BridgeEntry → Type 0
-IfFound entries None = Unit {0}
-IfFound entries (Some entry) = IsOneOf entry entries
-
-later_found : (first : BridgeEntry) (entries : List BridgeEntry) (o : Option BridgeEntry) → IfFound entries o → IfFound (first ∷ entries) o
-later_found first entries None found = tt
-later_found first entries (Some entry) found = inr found
-
-found_is_one : (secure normal : ℕ) (entries : List BridgeEntry) → IfFound entries (entry_between secure normal entries)
-found_is_one secure normal [] = tt
-found_is_one secure normal (entry ∷ entries) =
-    elim (is_entry_between secure normal entry) as (λ b. IfFound (entry ∷ entries) (cond b (Some entry) (find (is_entry_between secure normal) entries))) [
-      | true ↦ inl refl
-      | false ↦ later_found entry entries (find (is_entry_between secure normal) entries) (found_is_one secure normal entries)
-    ]
+use Rattle.kernel_laws.specs.Entries.{IsAmong}
+use Rattle.kernel_laws.proofs.Dues.{IfFound, IsDueOf, due_of_entries, found_is_among}
+use Rattle.bridge_laws.proofs.Entries.{Bridged, bridged_answered, bridged_less, bridged_more, nothing_bridged}
 
 -- A broken device drops the ends of all its entries.
 
@@ -151,7 +80,7 @@ module _ (c : CoreState) (d : Device) (below : AllByRecursion (λ (x : ℕ). x <
   same_ends : (after : CoreState) → after.bridged ≡ c.bridged → Bridged after.bridged d.entries
   same_ends after same = subst (λ (l : List ℕ). Bridged l d.entries) (sym same) k
 
-  dropped : (entry : BridgeEntry) → IsOneOf entry d.entries → Bridged (ns_drop false entry.end c).bridged (without_entry entry d.entries)
+  dropped : (entry : BridgeEntry) → IsAmong entry d.entries → Bridged (ns_drop false entry.end c).bridged (without_entry entry d.entries)
   dropped entry one =
       subst (λ (l : List ℕ). Bridged l (without_entry entry d.entries)) (sym (drop_names false entry.end c)) (bridged_less c.bridged d.entries entry k one)
 
@@ -196,7 +125,7 @@ module _ (c : CoreState) (d : Device) (below : AllByRecursion (λ (x : ℕ). x <
   control_bridges src (Err fault) = k
   control_bridges src (Ok (ConnReq path)) =
       elim (nat_le refusal_limit (length d.refusals)) as (λ b. TakenBridgesIf (cond b None (Some (request_taken c d src path)))) [ true ↦ tt | false ↦ request_bridges src path ]
-  control_bridges src (Ok (DiscReq target)) = leave_bridges src (entry_between target src d.entries) (found_is_one target src d.entries)
+  control_bridges src (Ok (DiscReq target)) = leave_bridges src (entry_between target src d.entries) (found_is_among target src d.entries)
   control_bridges src (Ok GoOnline) = k
   control_bridges src (Ok GoOffline) = k
   control_bridges src (Ok (ConnRsp target status remote size count)) = k

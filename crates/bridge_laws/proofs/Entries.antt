@@ -5,13 +5,9 @@ use Rattle.std.specs.List.{AllByRecursion, filter, insert, position_or_len}
 use Rattle.std.proofs.lemmas.List.{take-append-drop}
 use Rattle.kernel_values.specs.declared.world.BridgeEntry.{BridgeEntry}
 use Rattle.kernel_types.specs.Device.{answered_entry, free_secure, has_secure, new_entry, with_entry, without_entry}
+use Rattle.kernel_laws.specs.Entries.{IsAmong}
 use Rattle.bridge_laws.proofs.Counts.{all_apart, one_if, times, times_append, times_apart, times_below, times_cons, times_fewer, times_gone, times_inserted, times_mapped}
 use Rattle.bridge_laws.proofs.Free.{free_is_free, none_has}
-
--- the entry is one of these
-abbrev pub IsOneOf : BridgeEntry → List BridgeEntry → Type 0
-IsOneOf entry [] = ⊥
-IsOneOf entry (other ∷ others) = (other ≡ entry) ⊎ IsOneOf entry others
 
 abbrev secure_of : BridgeEntry → ℕ
 secure_of entry = entry.secure
@@ -30,7 +26,7 @@ nothing_bridged = record { same = λ n. refl; once = λ n. omega arith; addresse
 
 -- An entry goes, and its end with it.
 
-one_times : (entry : BridgeEntry) (entries : List BridgeEntry) → IsOneOf entry entries → 1 ≤ times secure_of entry.secure entries
+one_times : (entry : BridgeEntry) (entries : List BridgeEntry) → IsAmong entry entries → 1 ≤ times secure_of entry.secure entries
 one_times entry [] one = absurd one
 one_times entry (first ∷ entries) (inl same) =
     let is : first.secure ≡ entry.secure = ap (λ (e : BridgeEntry). e.secure) same in
@@ -39,7 +35,7 @@ one_times entry (first ∷ entries) (inl same) =
     omega (arith, counts, times_cons secure_of entry.secure first entries)
 one_times entry (first ∷ entries) (inr later) = omega (arith, one_times entry entries later, times_cons secure_of entry.secure first entries)
 
-entry_goes : (entry : BridgeEntry) (entries : List BridgeEntry) → IsOneOf entry entries → ((n : ℕ) → times secure_of n entries ≤ 1) → (n : ℕ)
+entry_goes : (entry : BridgeEntry) (entries : List BridgeEntry) → IsAmong entry entries → ((n : ℕ) → times secure_of n entries ≤ 1) → (n : ℕ)
     → times end_of_entry n entries ≡ one_if (entry.end == n) + times end_of_entry n (without_entry entry entries)
 entry_goes entry [] one apart n = absurd one
 entry_goes entry (first ∷ entries) (inl same) apart n =
@@ -67,7 +63,7 @@ entry_goes entry (first ∷ entries) (inr later) apart n =
     ] in
     go (first.secure == entry.secure) refl
 
-pub bridged_less : (ends : List ℕ) (entries : List BridgeEntry) (entry : BridgeEntry) → Bridged ends entries → IsOneOf entry entries
+pub bridged_less : (ends : List ℕ) (entries : List BridgeEntry) (entry : BridgeEntry) → Bridged ends entries → IsAmong entry entries
     → Bridged (filter (λ other. not (other == entry.end)) ends) (without_entry entry entries)
 bridged_less ends entries entry k one =
     let left : List ℕ = filter (λ other. not (other == entry.end)) ends in

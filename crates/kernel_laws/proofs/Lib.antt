@@ -1,3 +1,4 @@
+pub mod Dues
 pub mod Found
 pub mod Histories
 pub mod Mapped

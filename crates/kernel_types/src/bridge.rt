@@ -59,7 +59,7 @@ pub trait Core: IpcKernel {
 
     /// Sends a message without handles to the peer of an end that is Connected: the bytes are within the slots' size, and the
     /// peer has a free slot. Answers the peer and the message's number there. Refused, all stands as before; where the end
-    /// has no peer, want of memory is the answer.
+    /// has no peer, the answer is out of memory.
     fn ns_push(&mut self, end: ObjId, bytes: &Bytes) -> Result<EndSeq, NoMemory>
         requires named { IsBridged end.0 (Self.state self.old) }
         requires room { CanPush end.0 bytes.now (Self.state self.old) }

@@ -36,7 +36,7 @@ pub trait IpcKernel {
     /// The number of steps made.
     ghost made: { Self → ℕ };
 
-    /// The events that are never refused for want of memory.
+    /// The events that are never refused because memory ran out.
     ghost spares: { Self → Event → Type 0 };
 
     /// Makes the step of a lawful event. Refused, the event comes back and all stands as before. The

@@ -1,4 +1,4 @@
-//! Deep copies that may be refused for want of memory.
+//! Deep copies, which are refused where memory runs out.
 
 ghost use Rattle.std.specs.Prelude.{◌≡◌, IfOk};
 

@@ -10,7 +10,7 @@ use crate::copied::Copied;
 use std::alloc::{AllocError, AllocFailed, Global};
 use std::marker::Model;
 
-/// A growth was refused for want of memory. It is the one answer whose coming no contract decides.
+/// Memory ran out, and the growth was refused. It is the one answer whose coming no contract decides.
 #[derive(Clone, Copy, PartialEq, Eq, Debug)]
 pub struct NoMemory;
 

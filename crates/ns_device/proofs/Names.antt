@@ -8,7 +8,8 @@ use Rattle.kernel_values.specs.declared.world.BridgeEntry.{BridgeEntry}
 use Rattle.kernel_types.specs.Bridge.{ns_drop}
 use Rattle.kernel_types.specs.Bridging.{IsBridged, with_core}
 use Rattle.kernel_types.specs.Device.{answered_entry, entry_dropped, without_entry}
-use Rattle.ns_device.specs.Named.{AreNamed, IsAmong, has_end, is_named}
+use Rattle.kernel_laws.specs.Entries.{IsAmong}
+use Rattle.ns_device.specs.Named.{AreNamed, has_end, is_named}
 use Rattle.ns_device.proofs.Bridging.{drop_names}
 
 -- An entry's end is named.

@@ -49,7 +49,8 @@ use Rattle.set_laws.proofs.Naming.{Given}
 use Rattle.set_laws.proofs.NamingChanges.{walk_names}
 use Rattle.set_laws.proofs.Soundness.{apart, steps_keep_given, together}
 use Rattle.ns_device.specs.declared.told.DeviceOutcome.{DeviceOutcome}
-use Rattle.ns_device.specs.Named.{AreNamed, IsAmong}
+use Rattle.kernel_laws.specs.Entries.{IsAmong}
+use Rattle.ns_device.specs.Named.{AreNamed}
 use Rattle.ns_device.specs.Owing.{first_due}
 use Rattle.ns_device.specs.Value.{IsQueueOf, IsSound}
 use Rattle.ns_device.specs.Steps.{Stepped}
@@ -58,58 +59,7 @@ use Rattle.ns_device.proofs.Bridging.{connect_names, drop_names, idle_names, pus
 use Rattle.ns_device.proofs.First.{first_is}
 use Rattle.ns_device.proofs.Names.{named_answered, named_inserted, named_less}
 use Rattle.ns_device.proofs.Passing.{idling_given}
-use Rattle.ns_device.proofs.Takings.{IfFound, among_found}
-
--- What is due of an entry is due of one of the entries.
-
-abbrev IsDueOf : List BridgeEntry → Option Due → Type 0
-IsDueOf entries (Some (denying entry)) = IsAmong entry entries
-IsDueOf entries (Some (leaving entry)) = IsAmong entry entries
-IsDueOf entries other = Unit {0}
-
-due_later : (first : BridgeEntry) (entries : List BridgeEntry) (o : Option Due) → IsDueOf entries o → IsDueOf (first ∷ entries) o
-due_later first entries None is = tt
-due_later first entries (Some going_online) is = tt
-due_later first entries (Some (refusing refusal)) is = tt
-due_later first entries (Some (answering entry view)) is = tt
-due_later first entries (Some (denying entry)) is = inr is
-due_later first entries (Some (sending entry bytes)) is = tt
-due_later first entries (Some (leaving entry)) is = inr is
-
-unanswered_of : (entry : BridgeEntry) (entries : List BridgeEntry) (view : EndView) → IsDueOf (entry ∷ entries) (unanswered_due entry view)
-unanswered_of entry entries view =
-    let all : List BridgeEntry = entry ∷ entries in
-    let closed : IsDueOf all (cond (is_disconnected view.state) (Some (denying entry)) None) =
-    elim (is_disconnected view.state) as (λ b. IsDueOf all (cond b (Some (denying entry)) None)) [ true ↦ inl refl | false ↦ tt ] in
-    elim view.accepted as (λ b. IsDueOf all (cond b (Some (answering entry view)) (cond (is_disconnected view.state) (Some (denying entry)) None))) [ true ↦ tt | false ↦ closed ]
-
-answered_of : (entry : BridgeEntry) (entries : List BridgeEntry) (view : EndView) (peeked : Option (List ℕ)) → IsDueOf (entry ∷ entries) (answered_due entry view peeked)
-answered_of entry entries view (Some bytes) = tt
-answered_of entry entries view None =
-    elim (is_disconnected view.state) as (λ b. IsDueOf (entry ∷ entries) (cond b (Some (leaving entry)) None)) [ true ↦ inl refl | false ↦ tt ]
-
-entry_of_due : (c : CoreState) (entry : BridgeEntry) (entries : List BridgeEntry) → IsDueOf (entry ∷ entries) (entry_due c entry)
-entry_of_due c entry entries =
-    elim entry.answered as (λ b. IsDueOf (entry ∷ entries) (cond b (answered_due entry (ns_view c entry.end) (ns_peek c entry.end)) (unanswered_due entry (ns_view c entry.end)))) [
-      | true ↦ answered_of entry entries (ns_view c entry.end) (ns_peek c entry.end)
-      | false ↦ unanswered_of entry entries (ns_view c entry.end)
-    ]
-
-first_of : (c : CoreState) (entries : List BridgeEntry) → IsDueOf entries (first_due c entries)
-first_of c [] = tt
-first_of c (entry ∷ entries) =
-    let P : Option Due → Type 0 = λ o. IsDueOf (entry ∷ entries) o → IsDueOf (entry ∷ entries) (option_or o (first_due c entries)) in
-    let go : (o : Option Due) → P o = λ o. elim o as (λ v. P v) [ None ↦ (λ is. due_later entry entries (first_due c entries) (first_of c entries)) | Some due ↦ (λ is. is) ] in
-    go (entry_due c entry) (entry_of_due c entry entries)
-
-queued_of : (c : CoreState) (entries : List BridgeEntry) (refusals : List Refusal) → IsDueOf entries (queued_due c entries refusals)
-queued_of c entries (refusal ∷ refusals) = tt
-queued_of c entries [] = subst (λ (o : Option Due). IsDueOf entries o) (first_is c entries) (first_of c entries)
-
-due_of_entries : (c : CoreState) (d : Device) → IsDueOf d.entries (due_of c d)
-unfolding due_of
-due_of_entries c d =
-    elim d.online as (λ b. IsDueOf d.entries (cond b (queued_due c d.entries d.refusals) (Some going_online))) [ true ↦ queued_of c d.entries d.refusals | false ↦ tt ]
+use Rattle.kernel_laws.proofs.Dues.{IfFound, IsDueOf, due_of_entries, found_is_among}
 
 -- A device whose entries are named stays so, and keeps its queues.
 
@@ -197,7 +147,7 @@ module _ (c : CoreState) (d : Device) (sound : IsSound c d) where
   control_fits src (Err fault) = ignores_fits (fault_cause fault)
   control_fits src (Ok (ConnReq path)) =
       elim (nat_le refusal_limit (length d.refusals)) as (λ b. TakenFitsIf (cond b None (Some (request_taken c d src path)))) [ true ↦ tt | false ↦ request_fits src path ]
-  control_fits src (Ok (DiscReq target)) = leave_fits src (entry_between target src d.entries) (among_found target src d.entries)
+  control_fits src (Ok (DiscReq target)) = leave_fits src (entry_between target src d.entries) (found_is_among target src d.entries)
   control_fits src (Ok GoOnline) = ignores_fits ignored.NotServed
   control_fits src (Ok GoOffline) = ignores_fits ignored.NotServed
   control_fits src (Ok (ConnRsp target status remote size count)) = ignores_fits ignored.NotServed

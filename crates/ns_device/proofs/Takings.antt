@@ -20,7 +20,8 @@ use Rattle.tipc_proto.specs.Controls.{control_in}
 use Rattle.tipc_proto.specs.Frames.{frame_in}
 use Rattle.ns_device.specs.declared.taking.Taking.{Taking}
 use Rattle.ns_device.specs.declared.taking.Taking.TheVariants as taking
-use Rattle.ns_device.specs.Named.{AreNamed, IsAmong}
+use Rattle.kernel_laws.proofs.Dues.{IfFound, found_is_among}
+use Rattle.ns_device.specs.Named.{AreNamed}
 use Rattle.ns_device.specs.Taking.{IsTakeable, bytes_taking, control_taking, frame_taking, leave_taking, parsed_taking, taken_by, viewed_taking}
 use Rattle.ns_device.proofs.Names.{among_bridged}
 
@@ -64,22 +65,6 @@ taken_is c d bytes = parsed_same c d (drop 16 bytes) (frame_in bytes)
 
 -- What the core's calls ask for.
 
-abbrev pub IfFound : List BridgeEntry → Option BridgeEntry → Type 0
-IfFound entries None = Unit {0}
-IfFound entries (Some entry) = IsAmong entry entries
-
-later_found : (first : BridgeEntry) (entries : List BridgeEntry) (o : Option BridgeEntry) → IfFound entries o → IfFound (first ∷ entries) o
-later_found first entries None found = tt
-later_found first entries (Some entry) found = inr found
-
-pub among_found : (secure normal : ℕ) (entries : List BridgeEntry) → IfFound entries (entry_between secure normal entries)
-among_found secure normal [] = tt
-among_found secure normal (entry ∷ entries) =
-    elim (is_entry_between secure normal entry) as (λ b. IfFound (entry ∷ entries) (cond b (Some entry) (entry_between secure normal entries))) [
-      | true ↦ inl refl
-      | false ↦ later_found entry entries (entry_between secure normal entries) (among_found secure normal entries)
-    ]
-
 module _ (s : State) (d : Device) (payload : List ℕ) (named : AreNamed s.core.bridged d.entries) where
   abbrev Ready : Taking → Type 0
   Ready t = IsTakeable s payload t
@@ -94,7 +79,7 @@ module _ (s : State) (d : Device) (payload : List ℕ) (named : AreNamed s.core.
   control_ready : (src : ℕ) (r : Result Control FrameFault) → Ready (control_taking d src r)
   control_ready src (Err fault) = tt
   control_ready src (Ok (ConnReq path)) = ready_if (nat_le refusal_limit (length d.refusals)) taking.Held (taking.Requesting src path) tt tt
-  control_ready src (Ok (DiscReq target)) = leave_ready src (entry_between target src d.entries) (among_found target src d.entries)
+  control_ready src (Ok (DiscReq target)) = leave_ready src (entry_between target src d.entries) (found_is_among target src d.entries)
   control_ready src (Ok GoOnline) = tt
   control_ready src (Ok GoOffline) = tt
   control_ready src (Ok (ConnRsp target status remote size count)) = tt
@@ -127,7 +112,7 @@ module _ (s : State) (d : Device) (payload : List ℕ) (named : AreNamed s.core.
   parsed_ready (Err fault) = tt
   parsed_ready (Ok f) =
       ready_if (f.dst == control_address) (control_taking d f.src (control_in payload)) (bytes_taking s.core f (length payload) (entry_between f.dst f.src d.entries))
-      (control_ready f.src (control_in payload)) (bytes_ready f (entry_between f.dst f.src d.entries) (among_found f.dst f.src d.entries))
+      (control_ready f.src (control_in payload)) (bytes_ready f (entry_between f.dst f.src d.entries) (found_is_among f.dst f.src d.entries))
 
 pub takeable : (s : State) (d : Device) (bytes : List ℕ) → AreNamed s.core.bridged d.entries → IsTakeable s (drop 16 bytes) (frame_taking s.core d bytes)
 unfolding frame_taking

@@ -3,11 +3,6 @@ use Rattle.std.specs.Prelude.{◌≡◌, ◌⊎◌, ℕ, Bool, false, ◌==◌, 
 use Rattle.std.specs.List.{list_any}
 use Rattle.kernel_values.specs.declared.world.BridgeEntry.{BridgeEntry}
 
--- the entry is one of these
-abbrev pub IsAmong : BridgeEntry → List BridgeEntry → Type 0
-IsAmong entry [] = ⊥
-IsAmong entry (other ∷ others) = (other ≡ entry) ⊎ IsAmong entry others
-
 abbrev pub is_named : List ℕ → ℕ → Bool
 is_named bridged end = list_any (λ other. other == end) bridged
 

@@ -4,7 +4,7 @@ ghost use Rattle.std.specs.Prelude.{◌≡◌, ◌+◌, ◌<◌, ◌≤◌, ◌^
 ghost use Rattle.std.specs.Option.{unwrap_or};
 ghost use Rattle.std.specs.List.{find, list_any, position_or_len, range_with_len};
 ghost use Rattle.kernel_types.specs.Device.{answered_entry, entry_between, free_secure, has_secure, is_entry_between, with_entry, without_entry};
-ghost use Rattle.ns_device.specs.Named.{IsAmong};
+ghost use Rattle.kernel_laws.specs.Entries.{IsAmong};
 ghost use Rattle.ns_device.specs.Entries.{is_free};
 
 use kernel_values::{BridgeEntry, Items, NoMemory};

@@ -1,11 +1,14 @@
 -- From what a call is planned to be on the driver alone to what it is in its world.
-use Rattle.std.proofs.Common.{◌≡◌, ℕ, ◌==◌, true, false, cond, List, [], ◌∷◌, length, drop, Option, Some, None, Result, Ok, Err, refl, sym, ◌∙◌, ap, subst, arith}
+use Rattle.std.proofs.Common.{◌≡◌, ◌≢◌, ℕ, ◌==◌, true, false, cond, List, [], ◌∷◌, length, drop, Option, Some, None, Result, Ok, Err, refl, sym, ◌∙◌, ap, subst, arith}
 use Rattle.std.specs.Prelude.{slice_get}
 use Rattle.std.specs.List.{fold}
 use Rattle.std.specs.Option.{option_map}
 use Rattle.std.proofs.lemmas.List.{length-set}
 use Rattle.kernel_values.specs.declared.call.Call.{Call}
 use Rattle.kernel_values.specs.declared.call.Call.TheVariants as call
+use Rattle.kernel_values.specs.declared.call.CallKind.{CallKind}
+use Rattle.kernel_values.specs.declared.call.CallKind.TheVariants as kind
+use Rattle.kernel_values.specs.CallKinds.{kind_of, is_kind_in_client, is_kind_of_driver}
 use Rattle.kernel_values.specs.declared.reply.Answer.{Answer}
 use Rattle.kernel_types.specs.Objects.{set_if}
 use Rattle.tipc_proto.specs.declared.frames.Frame.{Frame}
@@ -22,7 +25,7 @@ use Rattle.kernel_types.specs.Clients.{Acted, ns_act}
 use Rattle.kernel_types.specs.Drains.{connection_changed, connection_place, status_changed, answered_status, left_status, received_by, deliver_control, deliver_frame, delivered, drained, to_normal_drained, from_normal_drained, drained_frames}
 use Rattle.kernel_types.specs.Sending.{control_address}
 use Rattle.ns_driver.specs.Value.{IsSound}
-use Rattle.ns_driver.specs.Acts.{DriverOutcome, told, bare, acted, MayAct, HasRoom}
+use Rattle.ns_driver.specs.Acts.{DriverOutcome, told, bare, acted, MayAct, MayFollow, HasRoom}
 use Rattle.ns_driver.specs.Plans.{Outcome, outcome, outcome_of, planned, alone, told_of, memory_after}
 use Rattle.ns_driver.proofs.Anywhere.{connects, sends, receives, closes, resumes}
 
@@ -59,7 +62,7 @@ sound_after client before call d after answer frame h e = subst SoundIn (sym e) 
 
 -- ---- a call drains first
 
-pub acted_is : (client : ℕ) (before : Option ClientWaitOn) (call : Option Call) (d : Driver) (w : World) → MayAct d before call
+pub acted_is : (client : ℕ) (before : Option ClientWaitOn) (call : Option Call) (d : Driver) (w : World) → MayFollow d before call
     → acted client before call w ≡ planned client before call (drained w)
 unfolding ns_act planned
 acted_is client before (Some (call.NsConnect path)) d w h = refl
@@ -69,6 +72,17 @@ acted_is client before (Some (call.NsClose conn)) d w h = refl
 acted_is client before (Some other) d w h = let no : false ≡ true = h.0 in absurd (cc)
 acted_is client None None d w h = refl
 acted_is client (Some on) None d w h = refl
+
+-- a call of a client that is not past the driver is one that drains
+pub may_follow : (d : Driver) (before : Option ClientWaitOn) (call : Call) → MayAct d before (Some call) → kind_of call ≢ kind.Direct → MayFollow d before (Some call)
+may_follow d before call h not_direct =
+    let go : (k : CallKind) → kind_of call ≡ k → MayFollow d before (Some call) = λ k. elim k as (λ k. kind_of call ≡ k → MayFollow d before (Some call)) [
+      | kind.Thread ↦ (λ is. let no : is_kind_in_client kind.Thread ≡ true = cc in absurd (cc))
+      | kind.Finish ↦ (λ is. let no : is_kind_in_client kind.Finish ≡ true = cc in absurd (cc))
+      | kind.Driver ↦ (λ is. (ap is_kind_of_driver is, h.1))
+      | kind.Direct ↦ (λ is. absurd (not_direct is))
+    ] in
+    go (kind_of call) refl
 
 -- ---- a drain keeps the number of connections
 
@@ -110,18 +124,18 @@ room_after : (d after : Driver) (call : Call) → length after.connections ≡ l
 room_after d after (call.NsConnect path) e h = omega arith
 room_after d after other e h = h
 
-may_act_after : (d after : Driver) (before : Option ClientWaitOn) (call : Option Call) → length after.connections ≡ length d.connections → MayAct d before call → MayAct after before call
-may_act_after d after before (Some call) e h = (h.0, room_after d after call e h.1)
-may_act_after d after before None e h = h
+may_follow_after : (d after : Driver) (before : Option ClientWaitOn) (call : Option Call) → length after.connections ≡ length d.connections → MayFollow d before call → MayFollow after before call
+may_follow_after d after before (Some call) e h = (h.0, room_after d after call e h.1)
+may_follow_after d after before None e h = h
 
-pub may_act_drained : (memory : List ℕ) (d after : Driver) (before : Option ClientWaitOn) (call : Option Call) → after ≡ (drained (bare memory d)).driver
-    → MayAct d before call → MayAct after before call
-may_act_drained memory d after before call is h =
-    may_act_after d after before call (ap (λ (x : Driver). length x.connections) is ∙ drained_long (bare memory d)) h
+pub may_follow_drained : (memory : List ℕ) (d after : Driver) (before : Option ClientWaitOn) (call : Option Call) → after ≡ (drained (bare memory d)).driver
+    → MayFollow d before call → MayFollow after before call
+may_follow_drained memory d after before call is h =
+    may_follow_after d after before call (ap (λ (x : Driver). length x.connections) is ∙ drained_long (bare memory d)) h
 
 -- ---- the whole
 
-pub act_told : (memory now : List ℕ) (d found after : Driver) (client : ℕ) (before : Option ClientWaitOn) (call : Option Call) (answer : Answer) (frame : Option (List ℕ)) → MayAct d before call
+pub act_told : (memory now : List ℕ) (d found after : Driver) (client : ℕ) (before : Option ClientWaitOn) (call : Option Call) (answer : Answer) (frame : Option (List ℕ)) → MayFollow d before call
     → found ≡ (drained (bare memory d)).driver
     → Some (outcome answer frame after) ≡ option_map outcome_of (planned client before call (alone found))
     → now ≡ memory_after d.size found.free frame (drained (bare memory d)).memory

@@ -1,9 +1,13 @@
 -- The laws of calls and waits in any world, from those on the driver alone.
-use Rattle.std.proofs.Common.{◌≡◌, ℕ, ◌+◌, ◌||◌, true, false, cond, [], ◌∷◌, length, Option, Some, None, refl, sym, ◌∙◌, ap}
+use Rattle.std.proofs.Common.{◌≡◌, ℕ, ◌+◌, ◌||◌, Bool, true, false, cond, List, [], ◌∷◌, length, Option, Some, None, refl, sym, ◌∙◌, ap}
+use Rattle.std.specs.Prelude.{nat_lt}
 use Rattle.std.specs.Option.{unwrap_or, is_some}
 use Rattle.kernel_values.specs.declared.call.Call.{Call}
 use Rattle.kernel_values.specs.declared.call.Call.TheVariants as call
 use Rattle.kernel_values.specs.declared.errno.Errno.TheVariants as errno
+use Rattle.kernel_values.specs.declared.reply.Reply.TheVariants as reply
+use Rattle.virtqueue.specs.Layout.{written_at, published}
+use Rattle.kernel_types.specs.GuestMemory.{memory_size, ring}
 use Rattle.kernel_types.specs.Waits.{is_due}
 use Rattle.kernel_values.specs.declared.world.ClientWait.{ClientWait}
 use Rattle.kernel_values.specs.declared.world.ClientWaitOn.{ClientWaitOn}
@@ -11,7 +15,7 @@ use Rattle.kernel_values.specs.declared.world.ClientWaitOn.TheVariants as wait_o
 use Rattle.kernel_values.specs.declared.world.ConnectionStatus.TheVariants as connection_status
 use Rattle.kernel_values.specs.declared.world.Driver.{Driver}
 use Rattle.kernel_values.specs.declared.world.World.{World}
-use Rattle.kernel_types.specs.Clients.{Acted, ns_refuses, ns_act, ns_connect_call, ns_send_call, ns_recv_call, ns_close_call, first_address, is_closed, receive_from, connect_answer, connect_answer_of, receive_answer, answer_of_wait, end_by_answer, end_of_ns_wait}
+use Rattle.kernel_types.specs.Clients.{Acted, ns_gives, ns_refuses, ns_act, ns_poke_call, ns_kick_call, greatest_head, ns_connect_call, ns_send_call, ns_recv_call, ns_close_call, first_address, is_closed, receive_from, connect_answer, connect_answer_of, receive_answer, answer_of_wait, end_by_answer, end_of_ns_wait}
 use Rattle.kernel_types.specs.Drains.{connection_of, drained, to_normal_drained, from_normal_drained, drained_frames}
 use Rattle.ns_driver.specs.Acts.{bare, still_waits, awaited, wait_if}
 use Rattle.ns_driver.specs.Plans.{alone}
@@ -48,6 +52,27 @@ carried clock client call w from a c b long a-is c-is =
 abbrev some_acted : Acted → Option Acted
 some_acted a = Some a
 
+-- what a write past the driver leaves, or its refusal
+abbrev written_if : Bool → List ℕ → World → Acted
+written_if refused memory w = cond refused (ns_refuses errno.InvalidArgs w) (ns_gives reply.Done (record w { memory = memory }))
+
+written_anywhere : (clock client : ℕ) (call : Call) (w : World) (refused : Bool) (memory : List ℕ)
+    → written_if refused memory w ≡ begun_in clock client call w (written_if refused memory (bare w.memory w.driver))
+written_anywhere clock client call w true memory = refl
+written_anywhere clock client call w false memory = refl
+
+pokes : (clock client addr : ℕ) (bytes : List ℕ) (w : World)
+    → ns_poke_call addr bytes w ≡ begun_in clock client (call.NsPoke addr bytes) w (ns_poke_call addr bytes (bare w.memory w.driver))
+unfolding ns_poke_call
+pokes clock client addr bytes w =
+    written_anywhere clock client (call.NsPoke addr bytes) w (nat_lt memory_size (addr + length bytes)) (written_at addr bytes w.memory)
+
+kicks : (clock client queue head : ℕ) (w : World)
+    → ns_kick_call queue head w ≡ begun_in clock client (call.NsKick queue head) w (ns_kick_call queue head (bare w.memory w.driver))
+unfolding ns_kick_call
+kicks clock client queue head w =
+    written_anywhere clock client (call.NsKick queue head) w (nat_lt 1 queue || nat_lt greatest_head head) (published w.memory (ring queue w.driver.size) head)
+
 pub calls_anywhere : CallsAnywhere
 unfolding ns_act
 calls_anywhere clock client (call.NsConnect path) w h =
@@ -74,6 +99,10 @@ calls_anywhere clock client (call.NsClose conn) w h =
     ∙ ap some_acted (carried clock client (call.NsClose conn) w from _ _ (ns_close_call client conn (alone from.driver)) (drained_long (bare w.memory w.driver))
     (closes clock client conn (with_both from w)).same (closes 0 client conn (with_both from (bare w.memory w.driver))).same)
     ∙ ap (λ v. some_acted (begun_in clock client (call.NsClose conn) w (ns_close_call client conn v))) (sym (drained_bare w))
+calls_anywhere clock client (call.NsPoke addr bytes) w h =
+    ap some_acted (pokes clock client addr bytes w)
+calls_anywhere clock client (call.NsKick queue head) w h =
+    ap some_acted (kicks clock client queue head w)
 calls_anywhere clock client other w h = let no : false ≡ true = h in absurd (cc)
 
 -- ---- the ends of waits

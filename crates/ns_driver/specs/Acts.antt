@@ -11,7 +11,7 @@ use Rattle.kernel_values.specs.declared.world.ClientWaitOn.TheVariants as wait_o
 use Rattle.kernel_values.specs.declared.world.Driver.{Driver}
 use Rattle.kernel_values.specs.declared.world.World.{World}
 use Rattle.kernel_types.specs.Clients.{Acted, ns_act, answer_of_wait, first_address}
-use Rattle.kernel_values.specs.CallKinds.{drains}
+use Rattle.kernel_values.specs.CallKinds.{is_client_call, drains}
 use Rattle.kernel_types.specs.Drains.{drained}
 use Rattle.kernel_types.specs.Opening.{opening_device}
 
@@ -63,16 +63,22 @@ wait_if wait other = None
 abbrev pub wait_after : Driver → Option ClientWaitOn → Option Call → Answer → Option ClientWaitOn
 wait_after d before call answer = wait_if (new_wait_of d before call) answer
 
--- What the driver is asked: one of the calls that drain, where an address of 32 bits is left for a new connection; or the end of
--- the wait of a client that waits.
+-- What the driver is asked: a call of a client but `finish`, where an address of 32 bits is left for a new connection; or the end
+-- of the wait of a client that waits.
 
 abbrev pub HasRoom : Driver → Call → Type 0
 HasRoom d (call.NsConnect path) = first_address + length d.connections < 2 ^ 32
 HasRoom d other = Unit {0}
 
 abbrev pub MayAct : Driver → Option ClientWaitOn → Option Call → Type 0
-MayAct d before (Some call) = IsTrue (drains call) × HasRoom d call
+MayAct d before (Some call) = IsTrue (is_client_call call) × HasRoom d call
 MayAct d before None = IsSome before
+
+-- what is asked of a driver that drains first
+
+abbrev pub MayFollow : Driver → Option ClientWaitOn → Option Call → Type 0
+MayFollow d before (Some call) = IsTrue (drains call) × HasRoom d call
+MayFollow d before None = IsSome before
 
 -- whether a client's wait has an answer after a drain
 abbrev pub has_answer : Option ClientWaitOn → World → Bool

@@ -14,7 +14,7 @@ use Rattle.kernel_values.specs.declared.world.ClientWait.{ClientWait}
 use Rattle.kernel_values.specs.declared.world.ClientWaitOn.{ClientWaitOn}
 use Rattle.kernel_values.specs.declared.world.World.{World}
 use Rattle.kernel_types.specs.Clients.{Acted, ns_act, ns_refuses, answer_of_wait, end_of_ns_wait, client_changed, client_waiting, new_wait}
-use Rattle.kernel_values.specs.CallKinds.{drains}
+use Rattle.kernel_values.specs.CallKinds.{is_client_call}
 use Rattle.kernel_types.specs.Drains.{drained}
 use Rattle.ns_driver.specs.Acts.{bare, begun, still_waits, awaited, wait_if, has_answer}
 
@@ -39,7 +39,7 @@ abbrev pub begun_in : ℕ → ℕ → Call → World → Acted → Acted
 begun_in clock client call w a = in_world (clients_after clock client call w a.answer) w a
 
 abbrev pub CallsAnywhere : Type 0
-CallsAnywhere = (clock client : ℕ) (call : Call) (w : World) → IsTrue (drains call)
+CallsAnywhere = (clock client : ℕ) (call : Call) (w : World) → IsTrue (is_client_call call)
     → ns_act clock client call w ≡ option_map (begun_in clock client call w) (begun client call (bare w.memory w.driver))
 
 -- Where the driver still waits, a wait that was cancelled or is late ends all the same.

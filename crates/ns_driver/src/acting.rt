@@ -1,4 +1,4 @@
-//! A drain and the call after it: what is planned first, and written then.
+//! A call or the end of a wait: most begin with a drain, and what comes after it is planned first, and written then.
 
 ghost use Rattle.std.specs.Prelude.{◌≡◌, ◌<◌, ◌≤◌, length, Some, None, IfOk, IfSome, OnOk, OnErr};
 ghost use Rattle.std.specs.Option.{option_map};
@@ -6,14 +6,17 @@ ghost use Rattle.std.specs.List.{All, fold};
 ghost use Rattle.virtqueue.specs.Layout.{IsQueue};
 ghost use Rattle.kernel_types.specs.GuestMemory.{ring, given};
 ghost use Rattle.ns_driver.specs.Value.{IsSound, wait_of};
-ghost use Rattle.ns_driver.specs.Acts.{bare, acted, told, awaited, new_wait_of, wait_if, MayAct, HasRoom};
+ghost use Rattle.ns_driver.specs.Acts.{bare, acted, told, awaited, new_wait_of, wait_if, MayAct, MayFollow, HasRoom};
 ghost use Rattle.ns_driver.specs.Plans.{outcome, outcome_of, planned, alone, memory_after};
 
 use crate::calls::{FIRST_ADDRESS, Planned, connect, send};
+use crate::direct::act_directly;
 use crate::drain::look;
 use crate::inboxes::{close, recv, resume};
 use crate::memory::{BUFFER_SIZE, give, send as send_frame};
-use kernel_values::{Answer, Bytes, Call, ClientWaitOn, Copied, Driver as DriverState, NoMemory};
+use kernel_values::{
+    Answer, Bytes, Call, CallKind, ClientWaitOn, Copied, Driver as DriverState, NoMemory,
+};
 use virtqueue::MEMORY_SIZE;
 
 /// What a client waits for.
@@ -85,7 +88,7 @@ fn plan(
     before: Option<ClientWaitOn>,
     call: Option<Call>,
 ) -> Result<Planned, NoMemory>
-    requires { MayAct driver.old before call }
+    requires { MayFollow driver.old before call }
     ensures done { IfOk result (λ p. Some (outcome p.answer p.frame driver.new) ≡ option_map outcome_of (planned client before call (alone driver.old))) }
     ensures short { IfOk result (λ p. IfSome p.frame (λ frame. length frame ≤ BUFFER_SIZE)) }
 {
@@ -113,6 +116,32 @@ fn send_planned(mem: &mut [u8], size: u32, free: &[u32], frame: &Option<Bytes>)
 }
 
 /// Drains, and makes the call or ends the wait.
+fn act_drained(
+    driver: &mut DriverState,
+    mem: &mut [u8],
+    client: u32,
+    before: Option<ClientWaitOn>,
+    call: Option<Call>,
+) -> Result<Answer, NoMemory>
+    requires memory { length mem.old ≡ MEMORY_SIZE }
+    requires sound { IsSound driver.old }
+    requires lawful { MayFollow driver.old before call }
+    ensures told { IfOk result (λ answer. option_map told (acted client before call (bare mem.old driver.old)) ≡ Some (record { answer = answer; memory = mem.new; driver = driver.new })) }
+    ensures sound { IsSound driver.new }
+    ensures memory { OnErr result (mem.new ≡ mem.old) }
+    ensures driver { OnErr result (driver.new ≡ driver.old) }
+{
+    let mut found = look(driver, mem)?;
+    let free = found.driver.free.copied()?;
+    let planned = plan(&mut found.driver, client, before, call)?;
+    give_all(mem, driver.size, found.again.as_slice());
+    send_planned(mem, driver.size, free.as_slice(), &planned.frame);
+    *driver = found.driver;
+    Ok(planned.answer)
+}
+
+/// Makes the call or ends the wait: a call past the driver at once, all else after a drain.
+#[tactic(auto, using(crate::proofs::Carrying::may_follow))]
 pub fn act_on(
     driver: &mut DriverState,
     mem: &mut [u8],
@@ -128,11 +157,12 @@ pub fn act_on(
     ensures memory { OnErr result (mem.new ≡ mem.old) }
     ensures driver { OnErr result (driver.new ≡ driver.old) }
 {
-    let mut found = look(driver, mem)?;
-    let free = found.driver.free.copied()?;
-    let planned = plan(&mut found.driver, client, before, call)?;
-    give_all(mem, driver.size, found.again.as_slice());
-    send_planned(mem, driver.size, free.as_slice(), &planned.frame);
-    *driver = found.driver;
-    Ok(planned.answer)
+    match call {
+        Some(call) if call.kind() == CallKind::Direct => {
+            let answer = act_directly(driver, mem, &call);
+            drop(call);
+            Ok(answer)
+        }
+        call => act_drained(driver, mem, client, before, call),
+    }
 }

@@ -6,6 +6,7 @@ mod acting;
 mod calls;
 mod connections;
 mod copies;
+mod direct;
 mod drain;
 mod driver;
 mod errors;

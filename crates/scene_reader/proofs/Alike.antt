@@ -18,7 +18,7 @@ use Rattle.script_lines.specs.Numbers.{number, number_below, cookie, number_with
 use Rattle.script_lines.specs.Payloads.{bytes_word, hex_bytes, decoded, filled, most_bytes}
 use Rattle.script_lines.specs.Registers.{place_of, with_name, no_handle, register, hand, with_set, with_sets, as_one, as_some, parts}
 use Rattle.script_lines.specs.Calls.{Spelled, port_line, connect_line, accept_line, wait_line, waitany_line, send_line, get_line, asked, read_line, put_line, cookie_line, close_line, dup_line, set_line, watched, add_line, del_line, mod_line, memref_line, mread_line, mwrite_line, exit_line, call_line}
-use Rattle.script_lines.specs.ClientCalls.{nconnect_line, nsend_line, nrecv_line, nclose_line, client_call_line}
+use Rattle.script_lines.specs.ClientCalls.{nconnect_line, nsend_line, nrecv_line, nclose_line, npoke_line, nkick_line, client_call_line}
 
 -- a register is read, or set
 abbrev pub reading : ℕ → List ℕ → Registers → Registers
@@ -356,9 +356,21 @@ unfolding nclose_line
 ncloses R c (conn ∷ []) r q h = handed R (hand r 0 conn) (hand q 0 conn) _ _ (hands R c 0 conn r q h) (λ r q conn h. (h, refl))
 ncloses R c words r q h = (refl, refl)
 
+npokes : LineAlike npoke_line
+unfolding npoke_line
+npokes R c (addr ∷ bytes ∷ []) r q h = same R (number addr) (numbers addr) _ _ (λ addr. same R (bytes_word bytes) (byte_words bytes) _ _ (λ bytes. (h, refl)))
+npokes R c words r q h = (refl, refl)
+
+nkicks : LineAlike nkick_line
+unfolding nkick_line
+nkicks R c (queue ∷ head ∷ []) r q h = same R (number queue) (numbers queue) _ _ (λ queue. same R (number head) (numbers head) _ _ (λ head. (h, refl)))
+nkicks R c words r q h = (refl, refl)
+
 pub client_calls : (call : ClientWord) → LineAlike (λ r. client_call_line r call)
 unfolding client_call_line
 client_calls client.Connect = nconnects
 client_calls client.Send = nsends
 client_calls client.Recv = nrecvs
 client_calls client.Close = ncloses
+client_calls client.Poke = npokes
+client_calls client.Kick = nkicks

@@ -11,7 +11,7 @@ use Rattle.script_lines.specs.declared.registers.Registers.{Registers}
 use Rattle.script_lines.specs.declared.words.ClientWord.{ClientWord}
 use Rattle.script_lines.specs.declared.words.ClientWord.TheVariants as word
 use Rattle.script_lines.specs.Gives.{◌>>=◌}
-use Rattle.script_lines.specs.Numbers.{timeout_word, path_word}
+use Rattle.script_lines.specs.Numbers.{number, timeout_word, path_word}
 use Rattle.script_lines.specs.Payloads.{bytes_word}
 use Rattle.script_lines.specs.Registers.{hand, as_one}
 use Rattle.script_lines.specs.Calls.{Spelled}
@@ -51,11 +51,29 @@ nclose_line r (conn ∷ []) = do
   Ok (conn.0, call.NsClose conn.1)
 nclose_line r words = Err BadWords
 
+-- `npoke ADDR BYTES`
+unfoldable pub npoke_line : Registers → List (List ℕ) → Spelled
+npoke_line r (addr ∷ bytes ∷ []) = do
+  addr ← number addr
+  bytes ← bytes_word bytes
+  Ok (r, call.NsPoke addr bytes)
+npoke_line r words = Err BadWords
+
+-- `nkick QUEUE HEAD`
+unfoldable pub nkick_line : Registers → List (List ℕ) → Spelled
+nkick_line r (queue ∷ head ∷ []) = do
+  queue ← number queue
+  head ← number head
+  Ok (r, call.NsKick queue head)
+nkick_line r words = Err BadWords
+
 unfoldable pub client_call_line : Registers → ClientWord → List (List ℕ) → Spelled
 client_call_line r word.Connect words = nconnect_line r words
 client_call_line r word.Send words = nsend_line r words
 client_call_line r word.Recv words = nrecv_line r words
 client_call_line r word.Close words = nclose_line r words
+client_call_line r word.Poke words = npoke_line r words
+client_call_line r word.Kick words = nkick_line r words
 
 -- the line's command, and the names of the script's registers after it
 unfoldable pub client_command_line : List (List ℕ) → ClientWord → List (List ℕ) → Result (List (List ℕ) × Command) SceneKind

@@ -76,6 +76,8 @@ client_word word = if bytes_eq word (codes "nconnect") then Some client.Connect
     else if bytes_eq word (codes "nsend") then Some client.Send
     else if bytes_eq word (codes "nrecv") then Some client.Recv
     else if bytes_eq word (codes "nclose") then Some client.Close
+    else if bytes_eq word (codes "npoke") then Some client.Poke
+    else if bytes_eq word (codes "nkick") then Some client.Kick
     else None
 
 abbrev pub or_calls : Option ScriptWord → Option CallWord → Option ClientWord → Option ScriptWord

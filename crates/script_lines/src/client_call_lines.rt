@@ -2,11 +2,11 @@
 
 ghost use Rattle.std.specs.Prelude.{◌≡◌, IfOk, IsTrue, map};
 ghost use Rattle.script_lines.specs.Gives.{Gives};
-ghost use Rattle.script_lines.specs.ClientCalls.{is_client_line, nconnect_line, nsend_line, nrecv_line, nclose_line, client_call_line, client_command_line};
+ghost use Rattle.script_lines.specs.ClientCalls.{is_client_line, nconnect_line, nsend_line, nrecv_line, nclose_line, npoke_line, nkick_line, client_call_line, client_command_line};
 
 use crate::fault::LineRefused::{self, Fault};
 use crate::fault::SceneKind::BadWords;
-use crate::numbers::{path_word, timeout_word};
+use crate::numbers::{number, path_word, timeout_word};
 use crate::payload::bytes_word;
 use crate::registers::{Registers, as_one, hand};
 use crate::words::ClientWord;
@@ -92,6 +92,42 @@ fn nclose_line(
     }
 }
 
+// `npoke ADDR BYTES`
+#[tactic(auto, unfolding(crate::specs::ClientCalls::npoke_line))]
+fn npoke_line(
+    alloc: Global,
+    registers: &mut Registers,
+    words: &[&[u8]],
+) -> Result<Call, LineRefused>
+    ensures exact { Gives (λ call. (registers.new, call)) result (npoke_line registers.old (map (λ word. word.now) words.now)) }
+    ensures lawful { IfOk result (λ call. IsTrue (is_client_line call)) }
+{
+    match words {
+        [addr, bytes] => {
+            let addr = number(addr)?;
+            let bytes = bytes_word(alloc, bytes)?;
+            Ok(Call::NsPoke { addr, bytes })
+        }
+        _ => Err(Fault(BadWords)),
+    }
+}
+
+// `nkick QUEUE HEAD`
+#[tactic(auto, unfolding(crate::specs::ClientCalls::nkick_line))]
+fn nkick_line(registers: &mut Registers, words: &[&[u8]]) -> Result<Call, LineRefused>
+    ensures exact { Gives (λ call. (registers.new, call)) result (nkick_line registers.old (map (λ word. word.now) words.now)) }
+    ensures lawful { IfOk result (λ call. IsTrue (is_client_line call)) }
+{
+    match words {
+        [queue, head] => {
+            let queue = number(queue)?;
+            let head = number(head)?;
+            Ok(Call::NsKick { queue, head })
+        }
+        _ => Err(Fault(BadWords)),
+    }
+}
+
 // What the line with this first word calls.
 #[tactic(auto, unfolding(crate::specs::ClientCalls::client_call_line))]
 fn client_call_line(
@@ -108,6 +144,8 @@ fn client_call_line(
         ClientWord::Send => nsend_line(alloc, registers, words),
         ClientWord::Recv => nrecv_line(alloc, registers, words),
         ClientWord::Close => nclose_line(alloc, registers, words),
+        ClientWord::Poke => npoke_line(alloc, registers, words),
+        ClientWord::Kick => nkick_line(registers, words),
     }
 }
 

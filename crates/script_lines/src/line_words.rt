@@ -167,6 +167,12 @@ fn client_word(word: &[u8]) -> Option<ClientWord>
     if word == b"nclose".as_slice() {
         return Some(ClientWord::Close);
     }
+    if word == b"npoke".as_slice() {
+        return Some(ClientWord::Poke);
+    }
+    if word == b"nkick".as_slice() {
+        return Some(ClientWord::Kick);
+    }
     None
 }
 

@@ -32,6 +32,8 @@ pub enum ClientWord {
     Send,
     Recv,
     Close,
+    Poke,
+    Kick,
 }
 
 /// The lines that scripts are made of.

@@ -1,14 +1,12 @@
 -- proofs/acting/act_on/Answers.antt
-use Rattle.std.proofs.Common.{rules}
-use Rattle.ns_driver.proofs.Carrying.{act_told, may_act_drained, sound_after}
+use Rattle.std.proofs.Common.{◌≡◌, rules, ◌∙◌, ap, Option, Some}
+use Rattle.std.specs.Option.{option_map}
+use Rattle.kernel_values.specs.declared.call.Call.{Call}
+use Rattle.ns_driver.specs.Acts.{acted, bare, told}
 use Rattle.ns_driver.proofs.acting.act_on.Goals as goal
 
-pub plan-requires : goal.plan-requires
-plan-requires c = may_act_drained c.args.mem.now c.args.driver.now _ _ _ c.in_ok-found.ensures.driver c.requires.lawful
-
-pub returns-clause-told : goal.returns-clause-told
-returns-clause-told c =
-    act_told c.args.mem.now _ c.args.driver.now c.in_ok-found.found.driver _ _ _ _ _ _ c.requires.lawful c.in_ok-found.ensures.driver c.in_ok-planned.ensures.done (search rules)
-
-pub returns-clause-sound : goal.returns-clause-sound
-returns-clause-sound c = sound_after _ _ _ c.in_ok-found.found.driver _ _ _ c.in_ok-found.ensures.sound c.in_ok-planned.ensures.done
+pub returns-in-Some-clause-told : goal.returns-in-Some-clause-told
+returns-in-Some-clause-told c =
+    let asked : c.args.call ≡ Some c.in-Some.call = search rules in
+    ap (λ (o : Option Call). option_map told (acted c.args.client c.args.before o (bare c.args.mem.now c.args.driver.now))) asked
+    ∙ c.act_directly-answer.ensures c.args.client c.args.before

@@ -1,0 +1,15 @@
+mod Looking
+mod Namers
+mod Marking
+mod Surviving
+mod Lone
+mod Cutting
+mod Keeping
+mod Breaking
+mod Folding
+mod Answering
+mod Staying
+mod StayingChanges
+mod HeldChanges
+mod Apart
+mod Histories
