@@ -1,13 +1,9 @@
 -- What the calls of a client, and the ends of its waits, leave of what is so of every connection; and the frames that they send.
-use Rattle.std.proofs.Common.{◌≡◌, ℕ, zero, suc, ◌+◌, ◌≤◌, Bool, true, false, cond, not, min, List, [], ◌∷◌, ◌++◌, length, Option, Some, None, refl, ap, sym, ◌∙◌, subst, arith, length-append}
-use Rattle.std.specs.Prelude.{◌==◌, nat_lt, ◌||◌, slice_get}
-use Rattle.kernel_values.specs.CallKinds.{drains}
+use Rattle.std.proofs.Common.{◌≡◌, ℕ, zero, suc, ◌+◌, ◌≤◌, Bool, true, false, cond, not, min, List, [], ◌∷◌, length, Option, Some, None, refl, ap, sym, subst, arith, length-append}
+use Rattle.std.specs.Prelude.{◌==◌, nat_lt, slice_get}
 use Rattle.kernel_values.specs.Words.{is_path}
-use Rattle.kernel_values.specs.declared.call.Call.{Call}
-use Rattle.kernel_values.specs.declared.call.Call.TheVariants as call
 use Rattle.kernel_values.specs.declared.call.Timeout.{Timeout}
 use Rattle.kernel_values.specs.declared.errno.Errno.TheVariants as errno
-use Rattle.kernel_values.specs.declared.reply.Reply.TheVariants as reply
 use Rattle.kernel_values.specs.declared.world.ClientWait.{ClientWait}
 use Rattle.kernel_values.specs.declared.world.ClientWaitOn.{ClientWaitOn}
 use Rattle.kernel_values.specs.declared.world.ClientWaitOn.TheVariants as wait_on
@@ -15,9 +11,8 @@ use Rattle.kernel_values.specs.declared.world.Connection.{Connection}
 use Rattle.kernel_values.specs.declared.world.ConnectionStatus.{ConnectionStatus}
 use Rattle.kernel_values.specs.declared.world.ConnectionStatus.TheVariants as connection_status
 use Rattle.kernel_values.specs.declared.world.World.{World}
-use Rattle.kernel_types.specs.Clients.{Acted, answer_of_wait, asked_connection, asks, close_by_status, close_on, closed_connection, connect_answer, connect_answer_of, counts, end_by_answer, end_of_ns_wait, greatest_head, inbox_changed, is_asked, is_closed, next_address, ns_act, ns_close_call, ns_connect_call, ns_kick_call, ns_poke_call, ns_recv_call, ns_refuses, ns_send_call, own_connection, owned_by, receive_answer, receive_from, receive_on, receive_or_wait, send_by, send_by_status, send_established, send_frame, send_limit, send_on, sent_in, shuts, with_inbox}
-use Rattle.kernel_types.specs.Drains.{connection_of, connection_place, drained}
-use Rattle.kernel_types.specs.GuestMemory.{memory_size}
+use Rattle.kernel_types.specs.Clients.{Acted, answer_of_wait, asked_connection, asks, close_by_status, close_on, closed_connection, connect_answer, connect_answer_of, counts, end_by_answer, end_of_ns_wait, is_asked, is_closed, next_address, ns_close_call, ns_connect_call, ns_recv_call, ns_refuses, ns_send_call, own_connection, owned_by, receive_answer, receive_from, receive_on, receive_or_wait, send_by, send_by_status, send_frame, send_limit, send_on, sent_in, shuts, with_inbox}
+use Rattle.kernel_types.specs.Drains.{connection_of, connection_place}
 use Rattle.kernel_types.specs.Sending.{frame, leave_frame, request_frame}
 use Rattle.kernel_types.specs.Waits.{is_due, is_zero_timeout}
 use Rattle.carry_laws.proofs.Lists.{AllOf, of_append}

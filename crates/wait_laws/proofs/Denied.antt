@@ -1,5 +1,5 @@
 -- In a history in which all is carried in order no connection is ever denied by the number of CANCELLED.
-use Rattle.std.proofs.Common.{◌≡◌, ℕ, zero, suc, ◌+◌, ◌^◌, ◌<◌, ◌≤◌, Bool, true, false, cond, List, [], ◌∷◌, ◌++◌, length, Option, Some, None, refl, ap, sym, ◌∙◌, subst, arith, append_assoc, inl, inr}
+use Rattle.std.proofs.Common.{◌≡◌, ℕ, ◌+◌, ◌^◌, ◌<◌, ◌≤◌, Bool, true, false, cond, List, [], ◌∷◌, ◌++◌, length, Option, Some, None, refl, ap, sym, ◌∙◌, subst, arith}
 use Rattle.std.specs.Prelude.{◌==◌, ◌||◌, nat_lt}
 use Rattle.std.specs.List.{fold}
 use Rattle.std.specs.Option.{option_map}
@@ -18,12 +18,11 @@ use Rattle.kernel_values.specs.declared.world.ConnectionStatus.{ConnectionStatus
 use Rattle.kernel_values.specs.declared.world.ConnectionStatus.TheVariants as connection_status
 use Rattle.kernel_values.specs.declared.world.Driver.{Driver}
 use Rattle.kernel_values.specs.declared.world.World.{World}
-use Rattle.kernel_types.specs.Carried.{IsCarried, client_frame, client_step, drained_in, frames_over, given_frame, given_in, given_out, offered, offered_in, one_if, read_back, taken, taken_frame, taken_in, where_done}
-use Rattle.kernel_types.specs.Clients.{Acted, asked_connection, closed_connection, end_of_ns_wait, greatest_head, next_address, ns_act, ns_gives, ns_kick_call, ns_poke_call, ns_refuses, with_inbox}
+use Rattle.kernel_types.specs.Carried.{IsCarried, client_frame, drained_in, given_frame, given_in, given_out, offered, offered_in, one_if, read_back, taken, taken_frame, taken_in, where_done}
+use Rattle.kernel_types.specs.Clients.{Acted, asked_connection, closed_connection, end_of_ns_wait, greatest_head, next_address, ns_act, ns_kick_call, ns_poke_call, ns_refuses, with_inbox}
 use Rattle.kernel_types.specs.CoreStep.{core_begin, core_resume}
 use Rattle.kernel_types.specs.Device.{DeviceStep, device_step}
-use Rattle.kernel_types.specs.Drains.{answered_status, delivered, drained, drained_frames, from_normal_drained, left_status, received_by, status_changed, to_normal_drained}
-use Rattle.kernel_types.specs.Errors.{number_of}
+use Rattle.kernel_types.specs.Drains.{answered_status, delivered, drained, drained_frames, from_normal_drained, left_status, to_normal_drained}
 use Rattle.kernel_types.specs.GuestMemory.{memory_size}
 use Rattle.kernel_types.specs.History.{Legal, entry_of, next_state, state_after, state_or, step_entry}
 use Rattle.kernel_types.specs.Opening.{opening}

@@ -1,9 +1,9 @@
 -- The device tells no client that its connect was cancelled, where the frames that it takes are from the addresses of connections.
-use Rattle.std.proofs.Common.{◌≡◌, ℕ, zero, suc, ◌^◌, ◌<◌, ◌≤◌, Bool, true, false, cond, not, List, [], ◌∷◌, ◌++◌, length, drop, map, Option, Some, None, Result, Ok, Err, refl, ap, sym, ◌∙◌, subst, arith}
-use Rattle.std.specs.Prelude.{◌==◌, ◌&&◌, nat_lt, nat_le, slice_get, insert}
-use Rattle.std.specs.List.{cons_option, filter, filter_map, find, list_any, position_or_len}
+use Rattle.std.proofs.Common.{◌≡◌, ℕ, ◌^◌, ◌<◌, ◌≤◌, Bool, true, false, cond, not, List, [], ◌∷◌, length, drop, map, Option, Some, None, Result, Ok, Err, refl, ap, sym, ◌∙◌, subst, arith}
+use Rattle.std.specs.Prelude.{◌==◌, ◌&&◌, nat_lt, nat_le, slice_get}
+use Rattle.std.specs.List.{cons_option, filter, filter_map, list_any, position_or_len}
 use Rattle.std.specs.Option.{option_map}
-use Rattle.byteorder.specs.Endian.{little_bytes, little_number}
+use Rattle.byteorder.specs.Endian.{little_number}
 use Rattle.byteorder.specs.Numbers.{little_number-reads_back}
 use Rattle.kernel_values.specs.declared.errno.Errno.{Errno}
 use Rattle.kernel_values.specs.declared.errno.Errno.TheVariants as errno
@@ -18,12 +18,12 @@ use Rattle.kernel_values.specs.declared.world.Refusal.{Refusal}
 use Rattle.kernel_types.specs.declared.bridge.EndView.{EndView}
 use Rattle.kernel_types.specs.Bridge.{ns_connect, ns_connect_by, ns_peek, ns_view}
 use Rattle.kernel_types.specs.Connects.{Way, to_port, to_start, to_nothing, way_of}
-use Rattle.kernel_types.specs.Device.{DeviceStep, Due, Taken, answered_due, answered_entry, broke, bytes_taken, device_step, due_device, due_frame, due_of, entry_between, entry_due, entry_limit, entry_made, fault_cause, free_secure, has_device, ignores, leave_taken, new_entry, queued_due, refusal_limit, refused, request_connected, request_refused, request_taken, ring_broke, send_due, sent_by_device, step_by_due, take_bytes, take_chain, take_control, take_frame, take_next, take_parsed, take_request, take_step, take_viewed, taken_by_device, unanswered_due, with_entry, without_entry}
+use Rattle.kernel_types.specs.Device.{DeviceStep, Due, Taken, answered_due, answered_entry, broke, bytes_taken, device_step, due_device, due_frame, due_of, entry_between, entry_due, entry_limit, free_secure, has_device, leave_taken, new_entry, queued_due, refusal_limit, request_connected, request_refused, request_taken, send_due, sent_by_device, step_by_due, take_bytes, take_control, take_frame, take_next, take_parsed, take_step, take_viewed, taken_by_device, without_entry}
 use Rattle.kernel_types.specs.Device.Due.{going_online, refusing, answering, denying, sending, leaving}
 use Rattle.kernel_types.specs.Errors.{number_of}
 use Rattle.kernel_types.specs.Events.{is_disconnected}
 use Rattle.kernel_types.specs.Ports.{admits}
-use Rattle.kernel_types.specs.Sending.{answer_frame, control_address, frame, leave_frame, online_frame}
+use Rattle.kernel_types.specs.Sending.{answer_frame, control_address, frame, leave_frame}
 use Rattle.tipc_proto.specs.declared.controls.Control.{Control}
 use Rattle.tipc_proto.specs.declared.controls.Control.TheVariants.{GoOnline, GoOffline, ConnReq, ConnRsp, DiscReq}
 use Rattle.tipc_proto.specs.declared.faults.FrameFault.{FrameFault}

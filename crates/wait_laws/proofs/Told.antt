@@ -1,5 +1,5 @@
 -- Where nobody denies a connection by the number of CANCELLED, no answer from the other side tells it.
-use Rattle.std.proofs.Common.{◌≡◌, ℕ, zero, suc, ◌+◌, ◌-◌, ◌<◌, ◌≤◌, ◌^◌, Bool, true, false, cond, not, List, [], ◌∷◌, ◌++◌, length, Option, Some, None, refl, ap, sym, ◌∙◌, subst, arith}
+use Rattle.std.proofs.Common.{◌≡◌, ℕ, zero, suc, ◌-◌, ◌≤◌, Bool, true, false, cond, not, List, [], ◌∷◌, ◌++◌, length, Option, Some, None, refl, ap, sym, ◌∙◌, subst, arith}
 use Rattle.std.specs.Prelude.{◌&&◌, slice_get}
 use Rattle.std.specs.List.{list_all, list_any}
 use Rattle.std.specs.Option.{is_some, unwrap_or}
@@ -18,13 +18,13 @@ use Rattle.kernel_values.specs.declared.world.Connection.{Connection}
 use Rattle.kernel_values.specs.declared.world.ConnectionStatus.{ConnectionStatus}
 use Rattle.kernel_values.specs.declared.world.ConnectionStatus.TheVariants as connection_status
 use Rattle.kernel_values.specs.declared.world.World.{World}
-use Rattle.kernel_types.specs.Carried.{IsCarried, client_step, drained_in, is_honest, where_done}
+use Rattle.kernel_types.specs.Carried.{drained_in, is_honest, where_done}
 use Rattle.kernel_types.specs.Clients.{Acted, answer_of_wait, connect_answer, connect_answer_of, end_by_answer, end_of_ns_wait, is_closed, ns_refuses, receive_answer, receive_from}
 use Rattle.kernel_types.specs.Drains.{connection_of, connection_place, drained, drained_frames}
-use Rattle.kernel_types.specs.Errors.{error_of, errors, number_of}
-use Rattle.kernel_types.specs.History.{Legal, next_state, state_after}
+use Rattle.kernel_types.specs.Errors.{error_of}
+use Rattle.kernel_types.specs.History.{Legal, state_after}
 use Rattle.kernel_types.specs.Opening.{opening}
-use Rattle.kernel_types.specs.Step.{Stepped, client_number, client_resume, is_thread, step}
+use Rattle.kernel_types.specs.Step.{client_number, client_resume, is_thread}
 use Rattle.kernel_types.specs.Turns.{history_limit}
 use Rattle.kernel_types.specs.Whole.{FollowsScripts}
 use Rattle.carry_laws.proofs.Histories.{carried}

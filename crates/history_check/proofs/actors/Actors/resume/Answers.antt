@@ -1,4 +1,3 @@
-use Rattle.std.proofs.Common.{sym, ◌∙◌}
 use Rattle.history_check.proofs.Moved.{resume_ok}
 use Rattle.history_check.proofs.actors.Actors.resume.Goals as goal
 
