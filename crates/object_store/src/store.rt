@@ -6,7 +6,7 @@ ghost use Rattle.std.specs.Borrow.{sem};
 ghost use Rattle.object_store.specs.Slots.{is_at};
 ghost use Rattle.object_store.specs.Stock.{new_held, held_at, value_at, names_at, total_names, changed, one_more, unnamed, last_at, NoneDead, IsSoundFrom};
 
-use crate::kept::{Slot, KeptSlots};
+use crate::kept::{KeptSlots, Slot};
 use crate::key::ObjKey;
 use kernel_values::NoMemory;
 use std::alloc::Global;

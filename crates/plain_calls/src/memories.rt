@@ -82,7 +82,12 @@ fn copied_range(alloc: Global, bytes: &[u8], offset: usize, len: usize) -> Resul
     Items::from_slice(alloc, &rest[..len])
 }
 
-fn mem_read_from(core: &CoreState, object: u64, offset: u32, len: u32) -> Result<CallOutcome, NoMemory>
+fn mem_read_from(
+    core: &CoreState,
+    object: u64,
+    offset: u32,
+    len: u32,
+) -> Result<CallOutcome, NoMemory>
     ensures { IfOk result (λ told. outcome told core.now ≡ mem_read_of core.now (memory_of core.now.objects object) offset len) }
 {
     let Some(memory) = find_memory(core.objects.as_slice(), object) else {

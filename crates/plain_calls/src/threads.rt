@@ -8,7 +8,12 @@ use crate::told::CallOutcome;
 use kernel_values::{Activity, Answer, CoreState, Seqs, Wait, WaitOn};
 
 /// The call of a running thread waits, until the deadline where there is one.
-pub fn begin_to_wait(core: &mut CoreState, thread: u32, on: WaitOn, deadline: Option<u64>) -> CallOutcome
+pub fn begin_to_wait(
+    core: &mut CoreState,
+    thread: u32,
+    on: WaitOn,
+    deadline: Option<u64>,
+) -> CallOutcome
     ensures { outcome result core.new ≡ waits_on thread on deadline core.old }
 {
     if let Some(waiter) = core.threads.get_mut(thread as usize) {

@@ -18,9 +18,7 @@ use kernel_values::{
     ObjId, Object, Port, PortFlags,
 };
 use plain_calls::applications::{find_start_port, place_of_server};
-use plain_calls::connects::{
-    add_pair, add_waiting, may_serve, to_u32, start_unless_running,
-};
+use plain_calls::connects::{add_pair, add_waiting, may_serve, start_unless_running, to_u32};
 use plain_calls::messages::{open_message, retire, unblock_peer};
 use plain_calls::ports::admits;
 use plain_calls::sends::add_message;

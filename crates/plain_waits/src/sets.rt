@@ -146,7 +146,12 @@ fn remove_member(core: &mut CoreState, id: u64, label: u32) -> Result<(), NoMemo
 
 /// Takes the member under this label away.
 #[tactic(auto, unfolding(kernel_types::specs::Sets::set_del))]
-pub fn set_del_call(core: &mut CoreState, app: u32, set: u32, label: u32) -> Result<CallOutcome, NoMemory>
+pub fn set_del_call(
+    core: &mut CoreState,
+    app: u32,
+    set: u32,
+    label: u32,
+) -> Result<CallOutcome, NoMemory>
     ensures { IfOk result (λ told. outcome told core.new ≡ set_del core.old app set label) }
 {
     let Some(entry) = find_entry(table_of(core, app), set) else {

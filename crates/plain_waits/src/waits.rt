@@ -22,7 +22,11 @@ fn is_due(clock: u64, deadline: Option<u64>) -> bool
 }
 
 /// The wait ends by a report, or else because it was cancelled or is over.
-fn end_by_report(core: &mut CoreState, app: u32, wait: Wait) -> Result<Option<CallOutcome>, NoMemory>
+fn end_by_report(
+    core: &mut CoreState,
+    app: u32,
+    wait: Wait,
+) -> Result<Option<CallOutcome>, NoMemory>
     ensures { IfOk result (λ told. outcome_if told core.new ≡ end_by_report core.old wait (report_of core.old app wait.on)) }
 {
     if let Some(found) = take_report(core, app, wait.on)? {

@@ -11,7 +11,7 @@ use Rattle.kernel_types.specs.Facts.{is_at_end}
 use Rattle.kernel_types.specs.History.{Legal, state_after}
 use Rattle.kernel_types.specs.Opening.{opening}
 use Rattle.kernel_types.specs.Step.{step}
-use Rattle.kernel_types.specs.Turns.{Run, Outturn, ran, refused, run_turn, run_from, run_by, replay_of, whole_or_refused, serial_from, serial_turns, next_turn, last_after, history_limit}
+use Rattle.kernel_types.specs.Turns.{Run, Outturn, ran, refused, run_from, run_by, replay_of, whole_or_refused, serial_from, serial_turns, next_turn, last_after, history_limit}
 use Rattle.kernel_types.specs.Whole.{FollowsScripts}
 use Rattle.kernel_log.specs.Logs.{Log, state_of}
 use Rattle.run_laws.proofs.SerialTurns.{from_refused, from_turn, serial_full, serial_over, serial_step, turn_grows}

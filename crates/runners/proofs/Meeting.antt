@@ -1,5 +1,5 @@
 -- What a legal history says of an actor's place: it is of the start in which the actor is, and waits where the actor waits.
-use Rattle.std.proofs.Common.{◌≡◌, ℕ, ◌+◌, ◌<◌, ◌≤◌, Bool, true, false, List, ◌++◌, length, Option, Some, refl, ap, sym, ◌∙◌, subst, arith, inl, inr}
+use Rattle.std.proofs.Common.{◌≡◌, ℕ, ◌+◌, ◌≤◌, Bool, true, false, List, length, Option, Some, refl, ap, sym, subst, arith, inl, inr}
 use Rattle.std.specs.Prelude.{slice_get}
 use Rattle.std.proofs.lemmas.Bool.{cases_lt}
 use Rattle.kernel_values.specs.SceneLaw.{SceneValue}
@@ -7,7 +7,6 @@ use Rattle.kernel_values.specs.declared.entry.ActorStatus.{ActorStatus}
 use Rattle.kernel_values.specs.declared.entry.ActorStatus.TheVariants as status
 use Rattle.kernel_values.specs.declared.entry.Entry.{Entry}
 use Rattle.kernel_values.specs.declared.script.Command.{Command}
-use Rattle.kernel_values.specs.declared.state.State.{State}
 use Rattle.kernel_types.specs.Facts.{status_at}
 use Rattle.kernel_types.specs.History.{Legal, state_after}
 use Rattle.kernel_types.specs.Opening.{opening}

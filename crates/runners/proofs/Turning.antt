@@ -1,6 +1,5 @@
 -- What a turn makes of a kernel with its actors' scripts.
-use Rattle.std.proofs.Common.{◌≡◌, ℕ, zero, suc, ◌+◌, ◌<◌, ◌≤◌, Bool, true, false, cond, List, [], ◌∷◌, ◌++◌, length, Option, Some, None, Result, Ok, Err, refl, ap, sym, ◌∙◌, subst, arith, get_or, append-nil, inl, inr}
-use Rattle.std.proofs.lemmas.Bool.{cases_lt}
+use Rattle.std.proofs.Common.{◌≡◌, ℕ, zero, suc, ◌<◌, ◌≤◌, Bool, true, false, cond, List, [], ◌∷◌, ◌++◌, length, Option, Some, None, Result, Ok, Err, refl, ap, sym, ◌∙◌, subst, arith, get_or, append-nil, inr}
 use Rattle.std.proofs.lemmas.Bool.Decides.{nat_tests}
 use Rattle.std.specs.Prelude.{slice_get, slice_set, nat_lt, IfOk, OnErr}
 use Rattle.std.specs.Option.{option_map}
@@ -17,11 +16,10 @@ use Rattle.kernel_values.specs.declared.scene.Turn.TheVariants as turn
 use Rattle.kernel_values.specs.declared.reply.Answer.{Answer}
 use Rattle.kernel_values.specs.declared.script.Command.{Command}
 use Rattle.kernel_values.specs.declared.state.State.{State}
-use Rattle.kernel_values.specs.SceneLaw.{SceneValue, scripts_of}
+use Rattle.kernel_values.specs.SceneLaw.{scripts_of}
 use Rattle.kernel_types.specs.Scripts.{next_call}
-use Rattle.kernel_types.specs.Whole.{FollowsScripts, answers_in, calls_in, final_answer}
+use Rattle.kernel_types.specs.Whole.{FollowsScripts, final_answer}
 use Rattle.kernel_types.specs.History.{Legal, state_after}
-use Rattle.kernel_types.specs.Opening.{opening}
 use Rattle.kernel_types.specs.Facts.{status_at}
 use Rattle.kernel_types.specs.Kernel.{step_limit}
 use Rattle.kernel_types.specs.Step.{Stepped, step, statuses}
