@@ -1,6 +1,6 @@
 -- Clap comes to the command that the words are, and refuses them where they are none.
-use Rattle.std.proofs.Common.{◌≡◌, ℕ, List, [], ◌∷◌, ◌++◌, Option, Some, None, Bool, true, false, drop, codes, refl, ap, ap₂, sym, subst, ◌∙◌}
-use Rattle.std.specs.Prelude.{option_and_then, is_some, bytes_eq, IsUtf8, if◌then◌else◌}
+use Rattle.std.proofs.Common.{◌≡◌, List, [], ◌∷◌, ◌++◌, Option, Some, None, Bool, true, false, drop, codes, refl, ap, ap₂, sym, subst, ◌∙◌}
+use Rattle.std.specs.Prelude.{option_and_then, is_some, bytes_eq, IsUtf8}
 use Rattle.std.specs.List.{AllByRecursion}
 use Rattle.clap.specs.Walk.{Text, Held, Waiting, idle, option, settled_rows, pushed, walk, walk_from, walked, nothing_held, finished, settled}
 use Rattle.clap.specs.Simple.{built, entered, matches_of}

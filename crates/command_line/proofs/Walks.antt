@@ -7,7 +7,7 @@ use Rattle.clap.specs.Faults.{defaults_fault, check_fault, settle_fault, use_fau
 use Rattle.clap.specs.Kinds.{Kinds, or_else}
 use Rattle.command_line.specs.declared.command.Command.{Command}
 use Rattle.command_line.specs.Words.{Spoken, with_form, with_word, is_option}
-use Rattle.command_line.specs.Commands.{form_named, command_named, command_with, command_spoken, listed, judged}
+use Rattle.command_line.specs.Commands.{form_named, command_with, command_spoken, listed, judged}
 use Rattle.command_line.specs.Program.{form_id, words_id}
 use Rattle.command_line.proofs.ClapApp.{shape, rules, form_rule, words_rule, rows, said, order_after, form_used, word_used, form_free, word_free, IsFault, form_twice, no_default, defaults_free, form_found, words_found}
 

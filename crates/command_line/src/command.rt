@@ -1,6 +1,6 @@
 //! The command that words are.
 
-ghost use Rattle.std.specs.Prelude.{◌≡◌, ◌≤◌, IfOk, map, option_map};
+ghost use Rattle.std.specs.Prelude.{◌≡◌, map, option_map};
 ghost use Rattle.command_line.specs.Commands.{form_named, run_named, made_by, command_named, alone_named, command_alone, judged, MakesFew};
 
 use crate::numbers::number_within;

@@ -22,9 +22,9 @@ use Rattle.scene_generator.specs.Generated.{generated}
 use Rattle.scene_reader.specs.Whole.{scene_of}
 use Rattle.script_lines.specs.declared.fault.SceneFault.{SceneFault}
 use Rattle.trusty_main.specs.Answers.{HasScene, IsEndless, IsReportOf, ReportsRun, Tells, TellsLong, TellsWhole}
-use Rattle.trusty_main.specs.Commanded.{AppendsFrontOf, AppendsSomeOf, Does, DoneBy, EndlessBy, GetsDueOf, HasCommand, IsDue, IsDueOfCheck, IsDueOfScene, IsDueOfThreads, IsReported, OfInput, ReportedBy, TellsLongOf, TellsSome, ToldBy, ToldOf, Unread, form_of}
+use Rattle.trusty_main.specs.Commanded.{AppendsSomeOf, Does, DoneBy, EndlessBy, GetsDueOf, HasCommand, IsDue, IsDueOfCheck, IsDueOfScene, IsDueOfThreads, IsReported, OfInput, ReportedBy, TellsLongOf, TellsSome, ToldBy, ToldOf, Unread}
 use Rattle.trusty_main.specs.Due.{Due, due_of_run}
-use Rattle.trusty_main.specs.Plans.{EndsInput, MakesFew, as_command, command_by, command_for, input_of, outturn_of, plain_of, plan_of, scene_by}
+use Rattle.trusty_main.specs.Plans.{EndsInput, command_by, command_for, input_of, outturn_of, plain_of, plan_of, scene_by}
 use Rattle.trusty_main.specs.Texts.{fault_text, no_text, too_long_text, yes_text}
 use Rattle.trusty_main.specs.declared.plan.Order.{Order}
 use Rattle.trusty_main.specs.declared.plan.Order.TheVariants as order

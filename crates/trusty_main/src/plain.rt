@@ -1,6 +1,6 @@
 //! The commands that take no threads: from the words and the input to what is written and the status.
 
-ghost use Rattle.std.specs.Prelude.{◌≡◌, ◌≢◌, ◌+◌, ◌≤◌, ◌⊎◌, max, Some, None, Ok, map, length, string_bytes, IfSome, []};
+ghost use Rattle.std.specs.Prelude.{◌≡◌, ◌+◌, ◌≤◌, ◌⊎◌, max, Some, None, Ok, map, length, string_bytes, IfSome, []};
 ghost use Rattle.std.specs.Io.KnownBytes.{Appends, Keeps};
 ghost use Rattle.outside_io.specs.Faults.{Rose};
 ghost use Rattle.outside_io.specs.Reading.{TakesMore};
@@ -8,7 +8,7 @@ ghost use Rattle.scene_reader.specs.Whole.{scene_of};
 ghost use Rattle.scene_generator.specs.Generated.{generated};
 ghost use Rattle.kernel_types.specs.Opening.{opening};
 ghost use Rattle.kernel_types.specs.Turns.{history_limit};
-ghost use Rattle.trusty_main.specs.Answers.{IsEndless, ReportsRun, Tells, TellsLong, HasScene};
+ghost use Rattle.trusty_main.specs.Answers.{IsEndless, ReportsRun, Tells, HasScene};
 ghost use Rattle.trusty_main.specs.Commanded.{AppendsSomeOf, Does, EndlessBy, GetsDueOf, HasCommand, IsDue, ReportedBy, TellsLongOf, TellsSome, ToldBy, Unread};
 ghost use Rattle.trusty_main.specs.Due.{due_of_run};
 ghost use Rattle.trusty_main.specs.Plans.{MakesFew, as_command, command_by, command_for, outturn_of, plain_in, plan_of, scene_by};

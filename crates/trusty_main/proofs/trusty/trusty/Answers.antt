@@ -1,5 +1,5 @@
 -- Of a command without threads what was done is the run of its plan; a run by threads has none.
-use Rattle.std.proofs.Common.{sym, ◌∙◌, map, string_bytes}
+use Rattle.std.proofs.Common.{map, string_bytes}
 use Rattle.command_line.specs.Commands.{command_in}
 use Rattle.trusty_main.specs.Plans.{plain_in}
 use Rattle.trusty_main.proofs.Commanding.{done_plain}
