@@ -10,6 +10,7 @@ use Rattle.kernel_values.specs.declared.state.Thread.{Thread}
 use Rattle.kernel_values.specs.declared.state.Wait.{Wait}
 use Rattle.kernel_types.specs.Applications.{ended_activity, is_over}
 use Rattle.kernel_types.specs.Sweep.{kept, pruned, sweep}
+use Rattle.kernel_types.specs.Tables.{install}
 use Rattle.kernel_types.specs.Threads.{new_wait, running_activity, waiting_activity}
 use Rattle.kernel_types.specs.Waits.{deadline_of}
 use Rattle.set_laws.proofs.Lists.{IfThere, all_get}
@@ -52,7 +53,8 @@ small_settles by c k made (entry_removed app of_app handle entry held) = tabled 
 small_settles by c k made (entry_installed app of_app object nameable room) = tabled app c.apps c.threads k (acting_runs by c k made app of_app) _
 small_settles by c k made (parts_installed app of_app id number count end message there is_open room) = tabled app c.apps c.threads k (acting_runs by c k made app of_app) _
 small_settles by c k made (last_changed app of_app entry first) = reported app c.apps c.threads k (acting_runs by c k made app of_app) entry.handle
-small_settles by c k made (end_accepted id server rest port there first) = accept_keeps SettledIn (λ d objects l. l) id server rest c k
+small_settles by c k made (end_accepted app of_app id server rest port there first room) =
+    accept_keeps (λ d. SettledIn (install app server d)) (λ d objects l. l) id server rest c (tabled app c.apps c.threads k (acting_runs by c k made app of_app) _)
 small_settles by c k made _ = k
 
 waiting_over : (w : Wait) → KeepsOver (waiting_activity w)

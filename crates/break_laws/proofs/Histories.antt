@@ -21,8 +21,8 @@ use Rattle.fit_laws.proofs.Ready.{IsWell}
 use Rattle.fit_laws.proofs.Steps.{histories_fit}
 use Rattle.bridge_laws.specs.Bridged.{NamesItsEntries}
 use Rattle.bridge_laws.proofs.Steps.{histories_bridged}
-use Rattle.break_laws.specs.Breaks.{IsBreak}
-use Rattle.break_laws.specs.Held.{KeepsApart}
+use Rattle.break_laws.specs.Breaks.{IsBreak, IsReachable}
+use Rattle.break_laws.proofs.Apart.{histories_apart}
 use Rattle.break_laws.proofs.Answering.{BreaksSo, all_dropped, device_so, is_break}
 use Rattle.break_laws.proofs.Breaking.{Stands, all_named_swept}
 use Rattle.break_laws.proofs.Folding.{AllCutOff, AreEndsOf, all_drop}
@@ -66,10 +66,14 @@ step_breaks : (s : State) (r : Stepped) → step s event.Device ≡ Some r → (
 unfolding step
 step_breaks s r is queue cause place says = breaks_by s (device_step s) refl r is queue cause place says
 
-pub histories_break : (scene : SceneValue) (entries : List Entry) (r : Stepped) (queue : ℕ) (cause : BreakCause) (place : ℕ) → Legal (opening scene) entries
-    → KeepsApart (state_after (opening scene) entries).core → step (state_after (opening scene) entries) event.Device ≡ Some r
-    → r.answer ≡ answer.Device (device.Broke queue cause place) → IsBreak (state_after (opening scene) entries) r.state
-histories_break scene entries r queue cause place legal keeps is says =
+histories_break : (scene : SceneValue) (entries : List Entry) → Legal (opening scene) entries → (r : Stepped) (queue : ℕ) (cause : BreakCause) (place : ℕ)
+    → step (state_after (opening scene) entries) event.Device ≡ Some r → r.answer ≡ answer.Device (device.Broke queue cause place) → IsBreak (state_after (opening scene) entries) r.state
+histories_break scene entries legal r queue cause place is says =
     let s : State = state_after (opening scene) entries in
-    let stands : Stands s.core = record { well = is_well scene entries legal; named = all_named scene entries; keeps = keeps } in
+    let stands : Stands s.core = record { well = is_well scene entries legal; named = all_named scene entries; keeps = histories_apart scene entries } in
     subst (λ (t : State). IsBreak s t) (sym (step_breaks s r is queue cause place says)) (broken_so s stands (histories_bridged scene entries))
+
+pub reached_break : (s : State) (r : Stepped) (queue : ℕ) (cause : BreakCause) (place : ℕ) → IsReachable s → step s event.Device ≡ Some r
+    → r.answer ≡ answer.Device (device.Broke queue cause place) → IsBreak s r.state
+reached_break s r queue cause place k is says =
+    subst (λ (t : State). step t event.Device ≡ Some r → IsBreak t r.state) k.is (λ at. histories_break k.scene k.entries k.legal r queue cause place at says) is

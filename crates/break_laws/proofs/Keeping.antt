@@ -93,11 +93,11 @@ never_true : (b : Bool) → (b ≡ true → ⊥) → b ≡ false
 never_true true never = absurd (never refl)
 never_true false never = refl
 
-all_of : (P : Object → Type 0) (xs : List Object) → ((x : Object) → In x xs → P x) → AllByRecursion P xs
+pub all_of : (P : Object → Type 0) (xs : List Object) → ((x : Object) → In x xs → P x) → AllByRecursion P xs
 all_of P [] each = tt
 all_of P (x ∷ xs) each = (each x (inl refl), all_of P xs (λ y h. each y (inr h)))
 
-held_of : (P : ℕ → Type 0) (objects : List Object) (x : Object) → AllByRecursion (λ (object : Object). AllByRecursion P (held_in object.body)) objects → In x objects → AllByRecursion P (held_in x.body)
+pub held_of : (P : ℕ → Type 0) (objects : List Object) (x : Object) → AllByRecursion (λ (object : Object). AllByRecursion P (held_in object.body)) objects → In x objects → AllByRecursion P (held_in x.body)
 held_of P [] x all h = absurd h
 held_of P (o ∷ objects) x all (inl e) = subst (λ (v : Object). AllByRecursion P (held_in v.body)) e all.0
 held_of P (o ∷ objects) x all (inr h) = held_of P objects x all.1 h

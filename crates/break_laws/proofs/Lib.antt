@@ -8,4 +8,9 @@ mod Keeping
 mod Breaking
 mod Folding
 mod Answering
+mod Staying
+mod StayingChanges
+mod HeldChanges
+mod Apart
 mod Histories
+mod Worked

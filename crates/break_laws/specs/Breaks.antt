@@ -1,6 +1,8 @@
 -- What is left of a state when ends are cut off, as the bridge's are by a break: they go, their peers hear of it, and nothing else changes.
 use Rattle.std.specs.Prelude.{◌≡◌, ℕ, Bool, true, false, List, [], Some}
 use Rattle.std.specs.List.{filter, list_any}
+use Rattle.kernel_values.specs.SceneLaw.{SceneValue}
+use Rattle.kernel_values.specs.declared.entry.Entry.{Entry}
 use Rattle.kernel_values.specs.declared.state.Body.{Body}
 use Rattle.kernel_values.specs.declared.state.Body.TheVariants as body
 use Rattle.kernel_values.specs.declared.state.ChannelEnd.{ChannelEnd}
@@ -11,6 +13,8 @@ use Rattle.kernel_values.specs.declared.state.MemoryRef.{MemoryRef}
 use Rattle.kernel_values.specs.declared.state.Object.{Object}
 use Rattle.kernel_values.specs.declared.state.Port.{Port}
 use Rattle.kernel_values.specs.declared.state.State.{State}
+use Rattle.kernel_types.specs.History.{Legal, state_after}
+use Rattle.kernel_types.specs.Opening.{opening}
 use Rattle.kernel_types.specs.Objects.{end_of, is_there, memory_of, port_of, set_of}
 use Rattle.kernel_types.specs.Reach.{is_in}
 use Rattle.kernel_types.specs.Sweep.{is_marked}
@@ -59,3 +63,10 @@ pub record IsBreak (s t : State) : Type 0 where
   pub cut_off : AreCutOff s.core.bridged s.core t.core
   pub none_bridged : t.core.bridged ≡ []
   pub device_is_broken : t.world ≡ record s.world { device = record s.world.device { broken = true; entries = []; refusals = [] } }
+
+-- the state after a legal history of a scene
+pub record IsReachable (s : State) : Type 0 where
+  pub scene : SceneValue
+  pub entries : List Entry
+  pub legal : Legal (opening scene) entries
+  pub is : state_after (opening scene) entries ≡ s

@@ -96,7 +96,9 @@ small_fits by c k (message_sent from source to end bytes parts may carries) = se
 small_fits by c k (message_opened id end message there first) = fit_quiet c.objects c.next k _ (opened_quiet (free_id end.messages)) id
 small_fits by c k (message_retired id number end message there is_open) = fit_quiet c.objects c.next k _ (retired_quiet number) id
 small_fits by c k (end_marked mark id) = fit_quiet c.objects c.next k (marked_by mark) (mark_quiet mark) id
-small_fits by c k (end_accepted id server rest port there first) = accepted_fits c k id server rest port there first
+small_fits by c k (end_accepted app of_app id server rest port there first room) =
+    let joined : FittingCore (after_accept id server rest c) = accepted_fits c k id server rest port there first in
+    record { rises = joined.rises; fits = joined.fits }
 
 call_fits : (app thread : ℕ) (asked : Call) (said : Answer) (c : CoreState) → FittingCore c → (change : ThreadChange app thread asked said c) → FittingCore (after_thread app thread asked said c change)
 call_fits app thread asked said c k (set_made is made room) = fit_added c.objects c.next k (body.Set (record { members = [] })) tt

@@ -29,11 +29,11 @@ use Rattle.history_check.specs.Verdicts.{BeginsWith, IsNo, IsReportOf, IsYes, be
 
 -- Histories that grow by one entry.
 
-state_more : (s : State) (entries : List Entry) (entry : Entry) → state_after s (entries ++ entry ∷ []) ≡ next_state (state_after s entries) entry.event
+pub state_more : (s : State) (entries : List Entry) (entry : Entry) → state_after s (entries ++ entry ∷ []) ≡ next_state (state_after s entries) entry.event
 state_more s [] entry = refl
 state_more s (first ∷ entries) entry = state_more (next_state s first.event) entries entry
 
-legal_more : (s : State) (entries : List Entry) (entry : Entry) → Legal s entries → step_entry (state_after s entries) entry.event ≡ Some entry → Legal s (entries ++ entry ∷ [])
+pub legal_more : (s : State) (entries : List Entry) (entry : Entry) → Legal s entries → step_entry (state_after s entries) entry.event ≡ Some entry → Legal s (entries ++ entry ∷ [])
 legal_more s [] entry legal is = (is, tt)
 legal_more s (first ∷ entries) entry legal is = (legal.0, legal_more (next_state s first.event) entries entry legal.1 is)
 

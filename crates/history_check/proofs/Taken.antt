@@ -1,6 +1,6 @@
 -- What the next line of a text comes to, and the check of all lines.
-use Rattle.std.proofs.Common.{◌≡◌, ◌<◌, ℕ, ◌+◌, Bool, true, false, List, [], ◌∷◌, ◌++◌, length, Option, Some, None, refl, sym, ap, ◌∙◌, subst, arith, inl, inr}
-use Rattle.std.specs.Prelude.{◌⊎◌, decimal, IfSome, IfNone, option_map, if◌then◌else◌}
+use Rattle.std.proofs.Common.{◌≡◌, ◌<◌, ℕ, ◌+◌, Bool, true, false, List, [], ◌∷◌, ◌++◌, length, map, Option, Some, None, refl, sym, ap, ◌∙◌, subst, arith, inl, inr}
+use Rattle.std.specs.Prelude.{◌⊎◌, decimal, IfSome, IfNone, option_map, slice_get, if◌then◌else◌}
 use Rattle.std.specs.List.{AllByRecursion}
 use Rattle.std.proofs.lemmas.List.{length-map}
 use Rattle.std.proofs.lemmas.Option.{slice_get_within}
@@ -13,7 +13,7 @@ use Rattle.kernel_values.specs.declared.entry.ActorStatus.TheVariants as status
 use Rattle.kernel_values.specs.declared.scene.Turn.{Turn}
 use Rattle.kernel_values.specs.declared.state.State.{State}
 use Rattle.kernel_types.specs.Facts.{end_facts}
-use Rattle.kernel_types.specs.History.{step_entry}
+use Rattle.kernel_types.specs.History.{next_state, step_entry}
 use Rattle.kernel_types.specs.Kernel.{step_limit}
 use Rattle.kernel_types.specs.Opening.{opening}
 use Rattle.kernel_types.specs.Step.{statuses}
@@ -23,20 +23,21 @@ use Rattle.report_text.specs.Names.{actor_names}
 use Rattle.report_text.specs.Plain.{IsWord}
 use Rattle.report_text.proofs.Lawful.{scripts_of_scene}
 use Rattle.report_text.proofs.NamesApart.{AreApart, actors_apart, actors_plain}
-use Rattle.runners.specs.Places.{first_place}
+use Rattle.runners.specs.Places.{AllRan, PlacesFit, first_place}
+use Rattle.runners.proofs.Fitting.{fits_first}
 use Rattle.run_laws.proofs.Counting.{actors_stay}
-use Rattle.runners.proofs.Starting.{actors_many, few_scripts}
+use Rattle.runners.proofs.Starting.{actors_many, few_scripts, first_start, get_places}
 use Rattle.history_check.specs.declared.actors.Actors.{Actors}
 use Rattle.history_check.specs.declared.verdict.Verdict.{Verdict}
 use Rattle.history_check.specs.declared.verdict.Verdict.TheVariants as verdict
 use Rattle.kernel_values.specs.declared.scene.Turn.TheVariants as turn
 use Rattle.history_check.specs.Checking.{CanFollow, Checks, Ends, IsEnd, NoLine, Opens, StandAt, TookEntry, TookLine}
 use Rattle.history_check.specs.Fronts.{IsOf, IsOfNobody}
-use Rattle.history_check.specs.Matching.{AreAtTheBeginning, Came, CanCome, Matches, IsWithin, NoneCan, SameActors, Took}
+use Rattle.history_check.specs.Matching.{AreAtTheBeginning, Came, CanCome, Matches, IsWithin, NoneCan, SameActors, StandsAfter, Took}
 use Rattle.history_check.specs.Verdicts.{IsNo, IsVerdict, IsYes, behind_first_line, line_count}
 use Rattle.history_check.proofs.Coming.{begin_runs, resume_waits}
 use Rattle.history_check.proofs.Lined.{fewer_lines}
-use Rattle.history_check.proofs.Reached.{Reached, begun, is_no, is_yes, no_number, went_on}
+use Rattle.history_check.proofs.Reached.{Reached, begun, is_no, is_yes, legal_more, no_number, state_more, went_on}
 use Rattle.history_check.proofs.Turned.{HasName, fronted, nobody, says, turn_is}
 
 abbrev front : ℕ → List ℕ
@@ -94,6 +95,7 @@ module _ (k : ℕ) (text : List ℕ) (old : Actors) (s : State) (fit : Matches o
         state_is = took.state_is;
         made_is = took.made_is;
         kept = took.kept;
+        ran = took.ran;
         only = λ scene entries stands other can. took.only entries stands.kept other (can_come scene entries stands other can);
       }
 
@@ -147,8 +149,19 @@ pub record Goes (first : Actors) (begin : State) (behind rest : List ℕ) (actor
 pub goes_first : (actors : Actors) (s : State) (behind : List ℕ) (made : ℕ) → Matches actors s → made ≡ 0 → line_count behind < step_limit → Goes actors s behind behind actors s made 0
 goes_first actors s behind made fit made_is few = record { fit = fit; made_is = made_is; room = omega (arith, few); reached = λ scene opens. begun scene behind actors s opens }
 
-fits_more : (old new : Actors) (s t : State) (e : Event) → Matches old s → SameActors old new → length (statuses t) ≡ length (statuses s) → Matches new t
-fits_more old new s t e fit same many = record {
+stands_more : (k : ℕ) (text rest : List ℕ) (old new : Actors) (s t : State) (made remade : ℕ) → StandsAfter old s → TookLine k text rest old new s t made remade → StandsAfter new t
+stands_more k text rest old new s t made remade stands took = record {
+  scene = stands.scene;
+  entries = stands.entries ++ took.entry ∷ [];
+  legal = legal_more (opening stands.scene) stands.entries took.entry stands.legal (subst (λ u. step_entry u took.entry.event ≡ Some took.entry) stands.state_is took.step_is);
+  state_is = took.state_is ∙ ap (λ u. next_state u took.entry.event) stands.state_is ∙ sym (state_more (opening stands.scene) stands.entries took.entry);
+  kept = subst (λ cs. PlacesFit cs new.places.items (stands.entries ++ took.entry ∷ [])) (sym took.same.scripts) (took.kept stands.entries stands.kept);
+  ran = took.ran (opening stands.scene) stands.entries stands.state_is stands.ran;
+}
+
+fits_more : (old new : Actors) (s t : State) (e : Event) → Matches old s → StandsAfter new t → SameActors old new → length (statuses t) ≡ length (statuses s) → Matches new t
+fits_more old new s t e fit stands same many = record {
+  stands = stands;
   names = ap length same.names ∙ (fit.names ∙ sym many);
   scripts = ap length same.scripts ∙ (fit.scripts ∙ sym many);
   places = same.many ∙ (fit.places ∙ sym many);
@@ -161,7 +174,7 @@ module _ (first : Actors) (begin : State) (behind rest : List ℕ) (actors : Act
 
   pub goes_on : (after : List ℕ) (new : Actors) (t : State) (remade : ℕ) → TookLine k rest after actors new s t made remade → Goes first begin behind after new t remade (k + 1)
   goes_on after new t remade took = record {
-    fit = fits_more actors new s t took.entry.event goes.fit took.same (ap (λ u. length (statuses u)) took.state_is ∙ actors_stay s took.entry.event);
+    fit = fits_more actors new s t took.entry.event goes.fit (stands_more k rest after actors new s t made remade goes.fit.stands took) took.same (ap (λ u. length (statuses u)) took.state_is ∙ actors_stay s took.entry.event);
     made_is = omega (arith, took.made_is, goes.made_is);
     room = omega (arith, goes.room, fewer_lines rest after (entry_words actors.names k took.entry) took.line_is);
     reached = λ scene opens. went_on scene behind rest actors s k (goes.reached scene opens) after new t made remade took;
@@ -192,11 +205,31 @@ module _ (first : Actors) (begin : State) (behind rest : List ℕ) (actors : Act
   verdict_is t first_line (none, stays) false e told is scene opens text text_is behind_is = subst (λ v. IsVerdict scene text v) (sym is) (says_no t first_line none stays e scene opens text text_is behind_is)
 
 -- The actors of a scene at its beginning.
+
+first_ran : (scene : SceneValue) (actors : Actors) → AreAtTheBeginning scene actors → AllRan actors.places.items (opening scene) []
+first_ran scene actors begins number place is =
+    inl (first_start (scripts_of scene) number place (ap (λ ps. slice_get ps number) (sym begins.places_are) ∙ is))
+
+first_fits : {scene : SceneValue} (actors : Actors) → AreAtTheBeginning scene actors → PlacesFit actors.scripts actors.places.items []
+first_fits actors begins number script script_is = (
+  first_place script,
+  ap (λ ps. slice_get ps number) (begins.places_are ∙ ap (λ cs. map first_place cs) (sym begins.scripts_are)) ∙ get_places actors.scripts number script script_is,
+  fits_first number script,
+)
+
 pub opening_fits : (scene : SceneValue) (actors : Actors) (s : State) → IsLawfulScene scene → AreAtTheBeginning scene actors → s ≡ opening scene → Matches actors s
 opening_fits scene actors s lawful begins state_is =
     let many : length (statuses s) ≡ length (scripts_of scene) = ap (λ t. length (statuses t)) state_is ∙ actors_many scene in
     let named : length actors.names ≡ length (scripts_of scene) = ap length begins.names_are ∙ sym (scripts_of_scene scene) in
     record {
+      stands = record {
+        scene = scene;
+        entries = [];
+        legal = tt;
+        state_is = state_is;
+        kept = first_fits actors begins;
+        ran = first_ran scene actors begins;
+      };
       names = named ∙ sym many;
       scripts = ap length begins.scripts_are ∙ sym many;
       places = ap length begins.places_are ∙ (length-map (scripts_of scene) first_place ∙ sym many);

@@ -5,13 +5,13 @@ use Rattle.kernel_values.specs.SceneLaw.{SceneValue, IsLawfulScene}
 use Rattle.kernel_values.specs.declared.entry.Entry.{Entry}
 use Rattle.kernel_values.specs.declared.state.State.{State}
 use Rattle.kernel_types.specs.Facts.{end_facts, is_at_end}
-use Rattle.kernel_types.specs.History.{step_entry, next_state}
+use Rattle.kernel_types.specs.History.{step_entry, next_state, state_after}
 use Rattle.kernel_types.specs.Opening.{opening}
 use Rattle.kernel_types.specs.Whole.{FollowsScripts}
 use Rattle.report_text.specs.Forms.{end_words, entry_words}
 use Rattle.report_text.specs.Lines.{blank, lined}
 use Rattle.report_text.specs.Names.{actor_names}
-use Rattle.runners.specs.Places.{PlacesFit}
+use Rattle.runners.specs.Places.{AllRan, PlacesFit}
 use Rattle.history_check.specs.declared.actors.Actors.{Actors}
 use Rattle.history_check.specs.declared.verdict.Verdict.{Verdict}
 use Rattle.history_check.specs.Matching.{AreAtTheBeginning, SameActors}
@@ -39,6 +39,7 @@ pub record TookLine (k : ℕ) (text rest : List ℕ) (old new : Actors) (s t : S
   pub state_is : t ≡ next_state s entry.event
   pub made_is : remade ≡ made + 1
   pub kept : (entries : List Entry) → PlacesFit old.scripts old.places.items entries → PlacesFit old.scripts new.places.items (entries ++ entry ∷ [])
+  pub ran : (first : State) (entries : List Entry) → s ≡ state_after first entries → AllRan old.places.items first entries → AllRan new.places.items first (entries ++ entry ∷ [])
   pub only : (scene : SceneValue) (entries : List Entry) → StandAt scene old entries → (other : Entry) → CanFollow old s entries k text other → other ≡ entry
 
 -- nothing that can come next has the next line

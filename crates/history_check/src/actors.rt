@@ -5,7 +5,7 @@ ghost use Rattle.kernel_types.specs.Facts.{status_at};
 ghost use Rattle.kernel_types.specs.Kernel.{step_limit};
 ghost use Rattle.kernel_values.specs.declared.entry.ActorStatus.TheVariants as status;
 ghost use Rattle.kernel_values.specs.declared.scene.Turn.TheVariants as turn;
-ghost use Rattle.history_check.specs.Matching.{AreAtTheBeginning, Came, Matches, IsWithin, Renewed};
+ghost use Rattle.history_check.specs.Matching.{AreAtTheBeginning, Came, IsCaughtUp, Matches, IsWithin, Renewed};
 
 use crate::steps::{step_of, step_once};
 use kernel_types::IpcKernel;
@@ -82,11 +82,12 @@ impl Actors {
 
     // An actor that was started again begins its script anew.
     fn start_anew(&mut self, alloc: Global, actor: u32, start: u32) -> Result<(), NoMemory>
-        requires { length self.old.places.items ≡ length self.old.scripts }
-        ensures { OnOk result (Renewed self.old self.new) }
+        requires many { length self.old.places.items ≡ length self.old.scripts }
+        requires within { actor < length self.old.scripts }
+        ensures { OnOk result (Renewed actor start self.old self.new) }
     {
         let Some(script) = self.scripts.get(actor as usize) else {
-            return Ok(());
+            unreachable!();
         };
         if self.places[actor as usize].actor.start() < start {
             self.places[actor as usize] = Place::new(alloc, script, start)?;
@@ -104,14 +105,10 @@ impl Actors {
         requires within { actor < length self.old.names }
         requires room { K.made kernel.old < step_limit }
         requires runs { status_at (K.state kernel.old) actor ≡ Some (status.Running start) }
+        requires caught_up { IsCaughtUp self.old actor start }
         ensures { IfOk result (λ entry. Came (turn.Actor actor) self.old self.new (K.state kernel.old) (K.state kernel.new) (K.made kernel.old) (K.made kernel.new) entry) }
     {
         let place = &mut self.places[actor as usize];
-        // The places keep step with what the kernel says of the actors, so this does not come. That
-        // it does not is not proved; the answer is the free one.
-        if place.waits || place.actor.start() != start {
-            return Err(NoMemory);
-        }
         let Some(call) = place.actor.next()? else {
             return Ok(None);
         };
@@ -136,10 +133,6 @@ impl Actors {
         ensures { IfOk result (λ entry. Came (turn.Actor actor) self.old self.new (K.state kernel.old) (K.state kernel.new) (K.made kernel.old) (K.made kernel.new) entry) }
     {
         let place = &mut self.places[actor as usize];
-        // As for a call: not known to be impossible, and never seen.
-        if !place.waits || place.actor.start() != start {
-            return Err(NoMemory);
-        }
         let event = Event::Resume {
             actor: ActorId(actor),
             start,

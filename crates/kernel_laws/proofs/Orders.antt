@@ -123,7 +123,7 @@ module _ (e : ℕ) where
   small_told by story c t (message_opened id end message there first) = tells_opened e story c.objects c.next t (free_id end.messages) message id end there first
   small_told by story c t (message_retired id number end message there is_open) = tells_retired e story c.objects c.next t number message id end there is_open
   small_told by story c t (end_marked mark id) = one_changed story c t (on_end (marked_by mark)) (quiet_end (marked_by mark) (mark_messages mark) (mark_sent mark)) id
-  small_told by story c t (end_accepted id server rest port there first) =
+  small_told by story c t (end_accepted app of_app id server rest port there first room) =
       let less : CoreState = port_changed (λ p. record p { pending = rest }) id c in
       accepted_told story (end_changed (accepted_end false) server less)
       (one_changed story less (one_changed story c t (on_port (λ p. record p { pending = rest })) (quiet_port _) id) (on_end (accepted_end false)) (quiet_end _ (λ x. refl) (λ x. refl)) server)

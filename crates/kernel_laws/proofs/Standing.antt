@@ -8,7 +8,7 @@ use Rattle.kernel_values.specs.declared.reply.Answer.{Answer}
 use Rattle.kernel_values.specs.declared.state.Activity.{Activity}
 use Rattle.kernel_values.specs.declared.state.TableEntry.{TableEntry}
 use Rattle.kernel_types.specs.Sweep.{kept, pruned, sweep}
-use Rattle.kernel_types.specs.Tables.{with_table, table_changed}
+use Rattle.kernel_types.specs.Tables.{install, table_changed, with_table}
 use Rattle.kernel_types.specs.Threads.{running_activity, waiting_activity, with_activity, activity_changed}
 use Rattle.step_laws.specs.SmallChanges.{SmallChange, after}
 use Rattle.step_laws.specs.SmallChanges.SmallChange.{cookie_changed, end_accepted, entry_installed, entry_removed, last_changed, parts_installed}
@@ -111,7 +111,8 @@ module _ (ms : List Manifest) (os : List ℕ) where
   small_stands by c k (entry_installed app of_app object nameable room) = tabled ms os c k app _
   small_stands by c k (parts_installed app of_app id number count end message there is_open room) = tabled ms os c k app _
   small_stands by c k (last_changed app of_app entry first) = app_changed ms os (λ a. record a { last = Some entry.handle }) (λ a. refl) c.apps c.threads k app
-  small_stands by c k (end_accepted id server rest port there first) = accept_keeps (StandIn ms os) (λ d objects l. l) id server rest c k
+  small_stands by c k (end_accepted app of_app id server rest port there first room) =
+      accept_keeps (λ d. StandIn ms os (install app server d)) (λ d objects l. l) id server rest c (tabled ms os c k app _)
   small_stands by c k _ = k
 
   thread_stands : (app thread : ℕ) (asked : Call) (said : Answer) (c : CoreState) → StandIn ms os c → (change : ThreadChange app thread asked said c)

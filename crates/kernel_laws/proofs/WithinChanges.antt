@@ -295,7 +295,7 @@ small_within by c w (message_sent from source to end bytes parts may carries) =
 small_within by c w (message_opened id end message there first) = on_end_within (with_opened (free_id end.messages)) (with_opened_within (free_id end.messages)) c w id
 small_within by c w (message_retired id number end message there is_open) = on_end_within (without_opened number) (without_opened_within number) c w id
 small_within by c w (end_marked mark id) = on_end_within (marked_by mark) (mark_within mark) c w id
-small_within by c w (end_accepted id server rest port there first) =
+small_within by c w (end_accepted app of_app id server rest port there first room) =
     let less : CoreState = port_changed (λ p. record p { pending = rest }) id c in
     let fewer_pending : WithinCore less = on_port_within (λ p. record p { pending = rest }) (λ p q. record { size = q.size; bufs = q.bufs }) c w id in
     accepted_client_within (end_changed (accepted_end false) server less) (on_end_within (accepted_end false) (accepted_within false) less fewer_pending server) (peer_of (end_of c.objects server))

@@ -103,7 +103,7 @@ small_keeps by c (message_sent from source to end bytes parts may carries) x the
 small_keeps by c (message_opened id end message found first) x there = there_one (on_end _) c.objects id x there
 small_keeps by c (message_retired id number end message found is_open) x there = there_one (on_end _) c.objects id x there
 small_keeps by c (end_marked mark id) x there = there_one (on_end _) c.objects id x there
-small_keeps by c (end_accepted id server rest port found first) x there =
+small_keeps by c (end_accepted app of_app id server rest port found first room) x there =
     let less : CoreState = port_changed (λ p. record p { pending = rest }) id c in
     accept_keeps (peer_of (end_of c.objects server)) (end_changed (accepted_end false) server less) x
     (there_one (on_end (accepted_end false)) less.objects server x (there_one (on_port (λ p. record p { pending = rest })) c.objects id x there))
@@ -174,7 +174,7 @@ small_there by c there change =
     let d : CoreState = after by c change in
     let up : (x : ℕ) → There c.objects x → There d.objects x = small_keeps by c change in
     let old : Known (There d.objects) c = weaker (There c.objects) c (apart_there c there) (There d.objects) up in
-    together_there d d refl (small_known (There d.objects) c old (λ x given. up x given.there) by change (new_there by c change))
+    together_there d d refl (small_known (There d.objects) c old (λ such x given. up x given.there) by change (new_there by c change))
 
 call_keeps : (app thread : ℕ) (asked : Call) (said : Answer) (c : CoreState) (change : ThreadChange app thread asked said c) (x : ℕ) → There c.objects x
     → There (after_thread app thread asked said c change).objects x
@@ -200,7 +200,7 @@ call_there app thread asked said c there change =
     let d : CoreState = after_thread app thread asked said c change in
     let up : (x : ℕ) → There c.objects x → There d.objects x = call_keeps app thread asked said c change in
     let old : Known (There d.objects) c = weaker (There c.objects) c (apart_there c there) (There d.objects) up in
-    together_there d d refl (call_known (There d.objects) c old (λ x given. up x given.there) app thread asked said change (called_there app thread asked said c change))
+    together_there d d refl (call_known (There d.objects) c old (λ such x given. up x given.there) app thread asked said change (called_there app thread asked said c change))
 
 -- what a sweep leaves named was named
 swept_names : (c : CoreState) (object : ℕ) → 0 < names_of (naming (sweep c)) object → 0 < names_of (naming c) object

@@ -12,11 +12,12 @@ use Rattle.kernel_values.specs.declared.world.ClientState.{ClientState}
 use Rattle.kernel_values.specs.declared.world.ClientWait.{ClientWait}
 use Rattle.kernel_values.specs.declared.world.ClientWaitOn.{ClientWaitOn}
 use Rattle.kernel_types.specs.Clients.{client_cancelled, client_changed, client_ended, client_running, client_waiting, new_wait}
-use Rattle.kernel_values.specs.CallKinds.{drains}
+use Rattle.kernel_values.specs.declared.call.CallKind.TheVariants as kind
+use Rattle.kernel_values.specs.CallKinds.{kind_of}
 use Rattle.kernel_types.specs.Waits.{is_due}
 use Rattle.ns_driver.specs.Acts.{acted, awaited, bare, told, wait_if}
 use Rattle.ns_driver.specs.Worlds.{clients_with, deadline_after}
-use Rattle.ns_bridge.specs.Acts.{Answered, activity_at, answered_if, asked_of_driver, call_told, called, called_as, called_of, client_acted, client_called, client_resumed, done_without_driver, resumed_as, resumed_of, run_again, told_if, wait_ended}
+use Rattle.ns_bridge.specs.Acts.{Answered, activity_at, answered_if, asked_of_driver, call_told, called, called_as, called_by, called_of, client_acted, client_called, client_resumed, resumed_as, resumed_of, run_again, told_if, wait_ended}
 use Rattle.ns_bridge.specs.Parts.{Normal}
 use Rattle.ns_bridge.specs.Timely.{AreClientsInTime, IsClientInTime, IsNear, IsShortCall, IsShortEvent}
 use Rattle.ns_bridge.proofs.Timing.{all_changed, near_after, one_changed}
@@ -67,16 +68,16 @@ asked_in_time clock client asked n short k =
       | Some t ↦ with_wait clock client (deadline_after clock asked) (near_of_call clock asked short) (wait_if (awaited n.driver asked) t.answer) n.clients k
     ]
 
-done_in_time : (clock client : ℕ) (asked : Call) (n : Normal) → AreClientsInTime clock n.clients → InTimeIf clock (done_without_driver client asked n)
-done_in_time clock client call.Finish n k = one_changed (in_time clock) (client_changed client_ended) (λ state t. ended_in_time clock state.activity t) n.clients client k
-done_in_time clock client other n k = tt
-
 called_in_time : (clock client start : ℕ) (asked : Call) (n : Normal) → IsShortCall asked → AreClientsInTime clock n.clients → InTimeIf clock (client_called clock client start asked n)
 unfolding client_called called
 called_in_time clock client start asked n short k =
     let done : InTimeIf clock (called clock client asked n) =
-    elim (drains asked) as (λ b. InTimeIf clock (cond b (asked_of_driver clock client asked n) (done_without_driver client asked n)))
-    [ true ↦ asked_in_time clock client asked n short k | false ↦ done_in_time clock client asked n k ] in
+    elim (kind_of asked) as (λ v. InTimeIf clock (called_by v clock client asked n)) [
+      | kind.Thread ↦ tt
+      | kind.Finish ↦ one_changed (in_time clock) (client_changed client_ended) (λ state t. ended_in_time clock state.activity t) n.clients client k
+      | kind.Driver ↦ asked_in_time clock client asked n short k
+      | kind.Direct ↦ asked_in_time clock client asked n short k
+    ] in
     let doing : (a : ClientActivity) → InTimeIf clock (called_as clock client start asked n a) =
     λ a. elim a as (λ v. InTimeIf clock (called_as clock client start asked n v)) [
       | activity.Running running ↦ elim (running == start) as (λ b. InTimeIf clock (cond b (called clock client asked n) None)) [ true ↦ done | false ↦ tt ]
@@ -109,8 +110,7 @@ resumed_in_time clock client start n k =
 
 acted_in_time : (clock client : ℕ) (e : Event) (n : Normal) → IsShortEvent e → AreClientsInTime clock n.clients → InTimeIf clock (client_acted clock client e n)
 unfolding client_acted
-acted_in_time clock client (event.Begin actor start asked) n short k =
-    elim (is_built asked) as (λ b. InTimeIf clock (cond b (client_called clock client start asked n) None)) [ true ↦ called_in_time clock client start asked n short k | false ↦ tt ]
+acted_in_time clock client (event.Begin actor start asked) n short k = called_in_time clock client start asked n short k
 acted_in_time clock client (event.Resume actor start) n short k = resumed_in_time clock client start n k
 acted_in_time clock client event.Device n short k = tt
 acted_in_time clock client event.Idle n short k = tt

@@ -1,5 +1,5 @@
 -- A client's call adds one connection at most, and only `nconnect` adds any.
-use Rattle.std.proofs.Common.{◌≡◌, ◌≤◌, ℕ, ◌+◌, Bool, true, false, cond, not, List, [], ◌∷◌, length, min, Option, Some, None, refl, subst, arith, length-append}
+use Rattle.std.proofs.Common.{◌≡◌, ◌≤◌, ℕ, ◌+◌, ◌||◌, Bool, true, false, cond, not, List, [], ◌∷◌, length, min, Option, Some, None, refl, subst, arith, length-append}
 use Rattle.std.specs.Prelude.{nat_lt, slice_get}
 use Rattle.std.specs.Option.{option_map, unwrap_or}
 use Rattle.std.proofs.Math.ListN.{length-set}
@@ -9,6 +9,7 @@ use Rattle.kernel_values.specs.declared.call.Call.TheVariants as call
 use Rattle.kernel_values.specs.declared.call.Timeout.{Timeout}
 use Rattle.kernel_values.specs.declared.errno.Errno.{Errno}
 use Rattle.kernel_values.specs.declared.errno.Errno.TheVariants as errno
+use Rattle.kernel_values.specs.declared.reply.Reply.TheVariants as reply
 use Rattle.kernel_values.specs.declared.world.ClientWaitOn.{ClientWaitOn}
 use Rattle.kernel_values.specs.declared.world.ClientWaitOn.TheVariants as wait_on
 use Rattle.kernel_values.specs.declared.world.Connection.{Connection}
@@ -16,9 +17,11 @@ use Rattle.kernel_values.specs.declared.world.ConnectionStatus.{ConnectionStatus
 use Rattle.kernel_values.specs.declared.world.ConnectionStatus.TheVariants as connection_status
 use Rattle.kernel_values.specs.declared.world.Driver.{Driver}
 use Rattle.kernel_values.specs.declared.world.World.{World}
-use Rattle.kernel_types.specs.Clients.{Acted, answer_of_wait, asked_connection, asks, close_by_status, close_on, closed_connection, connect_answer, connect_answer_of, counts, is_asked, is_closed, next_address, ns_act, ns_close_call, ns_connect_call, ns_recv_call, ns_refuses, ns_send_call, ns_waits, own_connection, receive_answer, receive_from, receive_on, receive_or_wait, send_by, send_by_status, send_established, send_frame, send_limit, send_on, sent_in, shuts, with_inbox}
-use Rattle.kernel_values.specs.CallKinds.{drains}
+use Rattle.virtqueue.specs.Layout.{published, written_at}
+use Rattle.kernel_types.specs.Clients.{Acted, answer_of_wait, asked_connection, asks, close_by_status, close_on, closed_connection, connect_answer, connect_answer_of, counts, greatest_head, is_asked, is_closed, next_address, ns_act, ns_close_call, ns_connect_call, ns_gives, ns_kick_call, ns_poke_call, ns_recv_call, ns_refuses, ns_send_call, ns_waits, own_connection, receive_answer, receive_from, receive_on, receive_or_wait, send_by, send_by_status, send_established, send_frame, send_limit, send_on, sent_in, shuts, with_inbox}
+use Rattle.kernel_values.specs.CallKinds.{is_client_call}
 use Rattle.kernel_types.specs.Drains.{connection_changed, connection_of, connection_place, drained}
+use Rattle.kernel_types.specs.GuestMemory.{memory_size, ring}
 use Rattle.kernel_types.specs.Objects.{set_if}
 use Rattle.kernel_types.specs.Sending.{frame, leave_frame, request_frame}
 use Rattle.kernel_types.specs.Waits.{deadline_of, is_zero_timeout}
@@ -147,6 +150,20 @@ unfolding answer_of_wait
 answers (wait_on.Connect conn) w = connect_answers w (connection_of w.driver.connections conn)
 answers (wait_on.Receive conn) w = receive_answers w (connection_of w.driver.connections conn)
 
+-- writes past the driver
+
+written : (w : World) (memory : List ℕ) (refused : Bool) → Adds 0 w (cond refused (ns_refuses errno.InvalidArgs w) (ns_gives reply.Done (record w { memory = memory })))
+written w memory refused =
+    adds_if 0 w refused (ns_refuses errno.InvalidArgs w) (ns_gives reply.Done (record w { memory = memory })) (refuses_any 0 w errno.InvalidArgs) (record { few = omega arith })
+
+poke_calls : (addr : ℕ) (bytes : List ℕ) (w : World) → Adds 0 w (ns_poke_call addr bytes w)
+unfolding ns_poke_call
+poke_calls addr bytes w = written w (written_at addr bytes w.memory) (nat_lt memory_size (addr + length bytes))
+
+kick_calls : (queue head : ℕ) (w : World) → Adds 0 w (ns_kick_call queue head w)
+unfolding ns_kick_call
+kick_calls queue head w = written w (published w.memory (ring queue w.driver.size) head) (nat_lt 1 queue || nat_lt greatest_head head)
+
 -- after a drain, which adds none
 
 from_drained : (more : ℕ) (w : World) (a : Acted) → Adds more (drained w) a → Adds more w a
@@ -155,12 +172,14 @@ from_drained more w a adds = record { few = omega (arith, adds.few, drained_long
 pub wait_adds : (on : ClientWaitOn) (w : World) → Adds 0 w (unwrap_or (answer_of_wait on (drained w)) (still_waits (drained w)))
 wait_adds on w = from_drained 0 w _ (answers on (drained w))
 
-pub call_adds : (clock client : ℕ) (asked : Call) (w : World) (a : Acted) → drains asked ≡ true → ns_act clock client asked w ≡ Some a → Adds (requests asked) w a
+pub call_adds : (clock client : ℕ) (asked : Call) (w : World) (a : Acted) → is_client_call asked ≡ true → ns_act clock client asked w ≡ Some a → Adds (requests asked) w a
 unfolding ns_act
 call_adds clock client (call.NsConnect path) w a d is = subst (λ (x : Acted). Adds 1 w x) (let same : ns_connect_call client path (drained w) ≡ a = cc in same) (from_drained 1 w _ (connects client path (drained w)))
 call_adds clock client (call.NsSend conn bytes) w a d is = subst (λ (x : Acted). Adds 0 w x) (let same : ns_send_call client conn bytes (drained w) ≡ a = cc in same) (from_drained 0 w _ (send_calls client conn bytes (drained w)))
 call_adds clock client (call.NsRecv conn timeout) w a d is = subst (λ (x : Acted). Adds 0 w x) (let same : ns_recv_call clock client conn timeout (drained w) ≡ a = cc in same) (from_drained 0 w _ (recv_calls clock client conn timeout (drained w)))
 call_adds clock client (call.NsClose conn) w a d is = subst (λ (x : Acted). Adds 0 w x) (let same : ns_close_call client conn (drained w) ≡ a = cc in same) (from_drained 0 w _ (close_calls client conn (drained w)))
+call_adds clock client (call.NsPoke addr bytes) w a d is = subst (λ (x : Acted). Adds 0 w x) (let same : ns_poke_call addr bytes w ≡ a = cc in same) (poke_calls addr bytes w)
+call_adds clock client (call.NsKick queue head) w a d is = subst (λ (x : Acted). Adds 0 w x) (let same : ns_kick_call queue head w ≡ a = cc in same) (kick_calls queue head w)
 call_adds clock client other w a d is = let no : false ≡ true = d in absurd (cc)
 
 -- an address of 32 bits is left

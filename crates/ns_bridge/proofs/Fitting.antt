@@ -1,5 +1,5 @@
 -- What a client is answered fits, and inboxes stay short.
-use Rattle.std.proofs.Common.{◌≡◌, ℕ, true, List, [], Option, Some, None, ◌∙◌, ap, subst}
+use Rattle.std.proofs.Common.{◌≡◌, ℕ, List, [], Option, Some, None, ◌∙◌, ap, subst}
 use Rattle.std.specs.List.{All, AllByRecursion}
 use Rattle.std.specs.Option.{option_map}
 use Rattle.std.proofs.lemmas.List.Elements.{All-from_recursion, recursion_from_All}
@@ -15,7 +15,7 @@ use Rattle.kernel_types.specs.Step.{Stepped, beside_core, client_begin, client_r
 use Rattle.kernel_laws.proofs.Worlds.{ActsIf, begin_acts, resume_acts}
 use Rattle.ns_bridge.specs.Acts.{Answered, beside, client_called, client_resumed}
 use Rattle.ns_bridge.specs.Parts.{Normal, state_of}
-use Rattle.ns_bridge.proofs.Lifting.{begin_lifts, is_served, resume_lifts}
+use Rattle.ns_bridge.proofs.Lifting.{begin_lifts, resume_lifts}
 
 -- a core with nothing but a clock
 abbrev bare_core : ℕ → CoreState
@@ -41,12 +41,12 @@ come_fits room clock n (Some acted) a inboxes acts is =
       inboxes = subst (λ (cs : List Connection). All IsInboxWithin cs) drivers (All-from_recursion IsInboxWithin acted.world.driver.connections (acts.world.inboxes short));
     }
 
-pub called_fits : (clock client start : ℕ) (asked : Call) (n : Normal) (a : Answered) → is_served asked ≡ true → All IsInboxWithin n.driver.connections
+pub called_fits : (clock client start : ℕ) (asked : Call) (n : Normal) (a : Answered) → All IsInboxWithin n.driver.connections
     → client_called clock client start asked n ≡ Some a → FitsRoom (room_of_call asked) a
-called_fits clock client start asked n a served inboxes is =
+called_fits clock client start asked n a inboxes is =
     let s : State = bare_state clock n in
     come_fits (room_of_call asked) clock n (client_begin s client start asked) a inboxes (begin_acts s client start asked)
-    (begin_lifts s client start asked served ∙ ap (option_map (beside s.core s.world.device)) is)
+    (begin_lifts s client start asked ∙ ap (option_map (beside s.core s.world.device)) is)
 
 pub resumed_fits : (clock client start : ℕ) (n : Normal) (a : Answered) → All IsInboxWithin n.driver.connections → client_resumed clock client start n ≡ Some a → FitsRoom full_room a
 resumed_fits clock client start n a inboxes is =

@@ -33,7 +33,7 @@ use Rattle.ns_bridge.proofs.Readings.{none_past, past}
 
 -- the kinds of calls
 
-thread_made : (c : CoreState) (k app : ℕ) (asked : Call) → (is_built asked && is_some (act c k app asked)) ≡ is_of_thread asked
+thread_made : (c : CoreState) (k app : ℕ) (asked : Call) → is_some (act c k app asked) ≡ is_of_thread asked
 unfolding act
 thread_made c k app (call.NsConnect path) = refl
 thread_made c k app (call.NsSend conn bytes) = refl
@@ -43,7 +43,7 @@ thread_made c k app (call.NsPoke addr bytes) = refl
 thread_made c k app (call.NsKick queue head) = refl
 thread_made c k app other = refl
 
-client_made : (clock client : ℕ) (asked : Call) (w : World) → (is_built asked && is_some (ns_act clock client asked w)) ≡ is_of_client asked
+client_made : (clock client : ℕ) (asked : Call) (w : World) → is_some (ns_act clock client asked w) ≡ is_of_client asked
 unfolding ns_act
 client_made clock client (call.NsConnect path) w = refl
 client_made clock client (call.NsSend conn bytes) w = refl
@@ -57,12 +57,11 @@ client_made clock client other w = refl
 -- tests in a row
 
 module _ {X Y Z : Type 0} (f : Y → Z) (g : X → Y) where
-  called_in : (built runs : Bool) (o : Option X) → is_some (cond built (option_map f (cond runs (option_map g o) None)) None) ≡ ((built && is_some o) && runs)
-  called_in false runs o = refl
-  called_in true false None = refl
-  called_in true false (Some x) = refl
-  called_in true true None = refl
-  called_in true true (Some x) = refl
+  called_in : (runs : Bool) (o : Option X) → is_some (option_map f (cond runs (option_map g o) None)) ≡ (is_some o && runs)
+  called_in false None = refl
+  called_in false (Some x) = refl
+  called_in true None = refl
+  called_in true (Some x) = refl
 
   moved_in : (waits : Bool) (o : Option X) → is_some (option_map f (cond waits (option_map g o) None)) ≡ (waits && is_some o)
   moved_in false o = refl
@@ -70,18 +69,15 @@ module _ {X Y Z : Type 0} (f : Y → Z) (g : X → Y) where
   moved_in true (Some x) = refl
 
 module _ {Y Z : Type 0} (f : Y → Z) where
-  called_by : (built runs : Bool) (o : Option Y) → is_some (cond built (option_map f (cond runs o None)) None) ≡ ((built && is_some o) && runs)
-  called_by false runs o = refl
-  called_by true false None = refl
-  called_by true false (Some x) = refl
-  called_by true true None = refl
-  called_by true true (Some x) = refl
+  called_by : (runs : Bool) (o : Option Y) → is_some (option_map f (cond runs o None)) ≡ (is_some o && runs)
+  called_by false None = refl
+  called_by false (Some x) = refl
+  called_by true None = refl
+  called_by true (Some x) = refl
 
-  never : (built made : Bool) → is_some (cond built (option_map f None) None) ≡ (made && false)
-  never false false = refl
-  never false true = refl
-  never true false = refl
-  never true true = refl
+  never : (made : Bool) → is_some (option_map f None) ≡ (made && false)
+  never false = refl
+  never true = refl
 
   stepped_some : (o : Option Y) → is_some (option_map f o) ≡ is_some o
   stepped_some None = refl
@@ -90,15 +86,15 @@ module _ {Y Z : Type 0} (f : Y → Z) where
 -- calls of threads
 
 thread_as : (w : World) (c : CoreState) (k start : ℕ) (asked : Call) (app : ℕ) (a : Activity)
-    → is_some (cond (is_built asked) (option_map (in_world w) (begin_as c k start asked app a)) None) ≡ (is_of_thread asked && runs_as start (status_of a))
+    → is_some (option_map (in_world w) (begin_as c k start asked app a)) ≡ (is_of_thread asked && runs_as start (status_of a))
 thread_as w c k start asked app (activity.Running running) =
-    called_in (in_world w) swept (is_built asked) (running == start) (act c k app asked) ∙ ap (λ b. b && (running == start)) (thread_made c k app asked)
-thread_as w c k start asked app activity.Off = never (in_world w) (is_built asked) (is_of_thread asked)
-thread_as w c k start asked app (activity.Waiting waiting wait) = never (in_world w) (is_built asked) (is_of_thread asked)
-thread_as w c k start asked app (activity.Ended ended) = never (in_world w) (is_built asked) (is_of_thread asked)
+    called_in (in_world w) swept (running == start) (act c k app asked) ∙ ap (λ b. b && (running == start)) (thread_made c k app asked)
+thread_as w c k start asked app activity.Off = never (in_world w) (is_of_thread asked)
+thread_as w c k start asked app (activity.Waiting waiting wait) = never (in_world w) (is_of_thread asked)
+thread_as w c k start asked app (activity.Ended ended) = never (in_world w) (is_of_thread asked)
 
 thread_begin_of : (s : State) (k start : ℕ) (asked : Call) (o : Option Thread) → slice_get s.core.threads k ≡ o → is_thread s k ≡ true
-    → is_some (cond (is_built asked) (option_map (in_world s.world) (begin_of s.core k start asked o)) None) ≡ (is_of_thread asked && is_running_as start (status_at s k))
+    → is_some (option_map (in_world s.world) (begin_of s.core k start asked o)) ≡ (is_of_thread asked && is_running_as start (status_at s k))
 thread_begin_of s k start asked None there of =
     let over : length s.core.threads ≤ k = none_past s.core.threads k there in
     let no : nat_lt k (length s.core.threads) ≡ false = grind (arith, tests) in
@@ -108,30 +104,30 @@ thread_begin_of s k start asked (Some thread) there of =
     ∙ ap (λ (o : Option ActorStatus). is_of_thread asked && is_running_as start o) (sym (status_of_thread s k thread there))
 
 thread_begins : (s : State) (k start : ℕ) (asked : Call) → is_thread s k ≡ true
-    → is_some (cond (is_built asked) (begin s k start asked) None) ≡ (is_of_thread asked && is_running_as start (status_at s k))
+    → is_some (begin s k start asked) ≡ (is_of_thread asked && is_running_as start (status_at s k))
 unfolding core_begin
 thread_begins s k start asked of =
-    ap (λ (o : Option Stepped). is_some (cond (is_built asked) o None)) (begin_of_thread s k start asked of)
+    ap (λ (o : Option Stepped). is_some o) (begin_of_thread s k start asked of)
     ∙ thread_begin_of s k start asked (slice_get s.core.threads k) refl of
 
 -- calls of clients
 
 client_as : (s : State) (client start : ℕ) (asked : Call) (a : ClientActivity)
-    → is_some (cond (is_built asked) (option_map (beside_core s.core) (client_call_as s client start asked a)) None) ≡ (is_of_client asked && runs_as start (client_status a))
+    → is_some (option_map (beside_core s.core) (client_call_as s client start asked a)) ≡ (is_of_client asked && runs_as start (client_status a))
 client_as s client start asked (client_activity.Running running) =
-    called_by (beside_core s.core) (is_built asked) (running == start) (ns_act s.core.clock client asked s.world)
+    called_by (beside_core s.core) (running == start) (ns_act s.core.clock client asked s.world)
     ∙ ap (λ b. b && (running == start)) (client_made s.core.clock client asked s.world)
-client_as s client start asked (client_activity.Waiting waiting wait) = never (beside_core s.core) (is_built asked) (is_of_client asked)
-client_as s client start asked (client_activity.Ended ended) = never (beside_core s.core) (is_built asked) (is_of_client asked)
+client_as s client start asked (client_activity.Waiting waiting wait) = never (beside_core s.core) (is_of_client asked)
+client_as s client start asked (client_activity.Ended ended) = never (beside_core s.core) (is_of_client asked)
 
 no_client : (s : State) (client : ℕ) → slice_get s.world.clients client ≡ None → status_at s (length s.core.threads + client) ≡ None
 no_client s client none = past (statuses s) (length s.core.threads + client) (omega (arith, statuses_long s, none_past s.world.clients client none))
 
 client_begin_of : (s : State) (client start : ℕ) (asked : Call) (o : Option ClientState) → slice_get s.world.clients client ≡ o
-    → is_some (cond (is_built asked) (option_map (beside_core s.core) (client_call_of s client start asked o)) None)
+    → is_some (option_map (beside_core s.core) (client_call_of s client start asked o))
     ≡ (is_of_client asked && is_running_as start (status_at s (length s.core.threads + client)))
 client_begin_of s client start asked None there =
-    never (beside_core s.core) (is_built asked) (is_of_client asked)
+    never (beside_core s.core) (is_of_client asked)
     ∙ ap (λ (o : Option ActorStatus). is_of_client asked && is_running_as start o) (sym (no_client s client there))
 client_begin_of s client start asked (Some state) there =
     client_as s client start asked state.activity
@@ -145,16 +141,16 @@ number_is : (s : State) (k : ℕ) → is_thread s k ≡ false → length s.core.
 number_is s k is = grind (arith, tests)
 
 client_begins : (s : State) (k start : ℕ) (asked : Call) → is_thread s k ≡ false
-    → is_some (cond (is_built asked) (begin s k start asked) None) ≡ (is_of_client asked && is_running_as start (status_at s k))
+    → is_some (begin s k start asked) ≡ (is_of_client asked && is_running_as start (status_at s k))
 unfolding client_begin
 client_begins s k start asked of =
     let client : ℕ = client_number s k in
-    ap (λ (o : Option Stepped). is_some (cond (is_built asked) o None)) (begin_of_client s k start asked of)
+    ap (λ (o : Option Stepped). is_some o) (begin_of_client s k start asked of)
     ∙ (client_begin_of s client start asked (slice_get s.world.clients client) refl
     ∙ ap (λ (n : ℕ). is_of_client asked && is_running_as start (status_at s n)) (number_is s k of))
 
 begins : (s : State) (k start : ℕ) (asked : Call) (of : Bool) → is_thread s k ≡ of
-    → is_some (cond (is_built asked) (begin s k start asked) None) ≡ (makes of asked && is_running_as start (status_at s k))
+    → is_some (begin s k start asked) ≡ (makes of asked && is_running_as start (status_at s k))
 begins s k start asked true of = thread_begins s k start asked of
 begins s k start asked false of = client_begins s k start asked of
 

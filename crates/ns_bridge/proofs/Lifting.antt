@@ -17,7 +17,9 @@ use Rattle.kernel_values.specs.declared.world.ClientWait.{ClientWait}
 use Rattle.kernel_values.specs.declared.world.Driver.{Driver}
 use Rattle.kernel_values.specs.declared.world.World.{World}
 use Rattle.kernel_types.specs.Clients.{Acted, client_may_move, end_of_ns_wait, ns_act}
-use Rattle.kernel_values.specs.CallKinds.{drains}
+use Rattle.kernel_values.specs.declared.call.CallKind.{CallKind}
+use Rattle.kernel_values.specs.declared.call.CallKind.TheVariants as kind
+use Rattle.kernel_values.specs.CallKinds.{is_client_call, is_kind_in_client, kind_of}
 use Rattle.kernel_types.specs.CoreStep.{core_begin, core_resume}
 use Rattle.kernel_types.specs.Drains.{drained}
 use Rattle.kernel_types.specs.Step.{beside_core, begin, client_begin, client_call_as, client_call_of, client_may_move_if, client_movable, client_number, client_resume, client_resume_as, client_resume_of, step, in_world as in_kernel_world, is_thread, resume, runs_again}
@@ -25,29 +27,26 @@ use Rattle.kernel_types.specs.Waits.{is_due}
 use Rattle.ns_driver.specs.Acts.{DriverOutcome, acted, bare, begun, told}
 use Rattle.ns_driver.specs.Worlds.{begun_in, ended, ended_if, resumed_by, resumed_in}
 use Rattle.ns_driver.proofs.Locality.{calls_anywhere, waits_end_anywhere, waits_move_anywhere}
-use Rattle.ns_bridge.specs.Acts.{activity_at, activity_moves, activity_moves_if, asked_of_driver, beside, call_told, called, called_as, called_of, client_acted, client_called, client_resumed, ended_answer, is_over, resumed_as, resumed_of, run_again, wait_ended, wait_moves, with_ended}
+use Rattle.ns_bridge.specs.Acts.{activity_at, activity_moves, activity_moves_if, asked_of_driver, beside, call_told, called, called_as, called_by, called_of, client_acted, client_called, client_resumed, ended_answer, is_over, resumed_as, resumed_of, run_again, wait_ended, wait_moves, with_ended}
 use Rattle.ns_bridge.specs.Parts.{Normal, normal_of}
 use Rattle.ns_bridge.specs.Wholes.{IsOfClient}
 
 -- Calls.
 
--- no call that writes guest memory by itself
-abbrev pub is_served : Call → Bool
-is_served (call.NsPoke addr bytes) = false
-is_served (call.NsKick queue head) = false
-is_served other = true
+-- the driver makes what a client calls but `finish`
+pub driver_makes : (clock client : ℕ) (asked : Call) (n : Normal) → is_client_call asked ≡ true → called clock client asked n ≡ asked_of_driver clock client asked n
+unfolding called
+driver_makes clock client asked n made =
+    let P : CallKind → Type 0 = λ k. is_kind_in_client k ≡ true → called_by k clock client asked n ≡ asked_of_driver clock client asked n in
+    let go : (k : CallKind) → P k = λ k. elim k as (λ v. P v) [
+      | kind.Thread ↦ (λ no. absurd (cc))
+      | kind.Finish ↦ (λ no. absurd (cc))
+      | kind.Driver ↦ (λ is. refl)
+      | kind.Direct ↦ (λ is. refl)
+    ] in
+    go (kind_of asked) made
 
-pub drains_is_served : (asked : Call) → drains asked ≡ true → is_served asked ≡ true
-drains_is_served (call.NsPoke addr bytes) d = d
-drains_is_served (call.NsKick queue head) d = d
-drains_is_served other d = refl
-
-pub built_is_served : (asked : Call) → is_built asked ≡ true → is_served asked ≡ true
-built_is_served (call.NsPoke addr bytes) b = b
-built_is_served (call.NsKick queue head) b = b
-built_is_served other b = refl
-
-driver_lifts : (c : CoreState) (clock client : ℕ) (asked : Call) (w : World) → drains asked ≡ true
+driver_lifts : (c : CoreState) (clock client : ℕ) (asked : Call) (w : World) → is_client_call asked ≡ true
     → option_map (beside_core c) (ns_act clock client asked w) ≡ option_map (beside c w.device) (asked_of_driver clock client asked (normal_of w))
 unfolding asked_of_driver
 driver_lifts c clock client asked w d =
@@ -58,16 +57,7 @@ driver_lifts c clock client asked w d =
     ap (option_map (beside_core c)) (calls_anywhere clock client asked w d) ∙ both (begun client asked (bare w.memory w.driver))
 
 -- `finish`, and calls of threads
-abbrev is_rest : Call → Bool
-is_rest (call.NsConnect path) = false
-is_rest (call.NsSend conn bytes) = false
-is_rest (call.NsRecv conn timeout) = false
-is_rest (call.NsClose conn) = false
-is_rest (call.NsPoke addr bytes) = false
-is_rest (call.NsKick queue head) = false
-is_rest other = true
-
-rest_lifts : (c : CoreState) (clock client : ℕ) (asked : Call) (w : World) → is_rest asked ≡ true
+rest_lifts : (c : CoreState) (clock client : ℕ) (asked : Call) (w : World) → is_client_call asked ≡ false
     → option_map (beside_core c) (ns_act clock client asked w) ≡ option_map (beside c w.device) (called clock client asked (normal_of w))
 unfolding called ns_act
 rest_lifts c clock client (call.NsConnect path) w r = absurd (cc)
@@ -78,47 +68,27 @@ rest_lifts c clock client (call.NsPoke addr bytes) w r = absurd (cc)
 rest_lifts c clock client (call.NsKick queue head) w r = absurd (cc)
 rest_lifts c clock client other w r = refl
 
-call_lifts : (c : CoreState) (clock client : ℕ) (asked : Call) (w : World) → is_served asked ≡ true
+call_lifts : (c : CoreState) (clock client : ℕ) (asked : Call) (w : World)
     → option_map (beside_core c) (ns_act clock client asked w) ≡ option_map (beside c w.device) (called clock client asked (normal_of w))
-unfolding called
-call_lifts c clock client (call.NsConnect path) w s = driver_lifts c clock client (call.NsConnect path) w refl
-call_lifts c clock client (call.NsSend conn bytes) w s = driver_lifts c clock client (call.NsSend conn bytes) w refl
-call_lifts c clock client (call.NsRecv conn timeout) w s = driver_lifts c clock client (call.NsRecv conn timeout) w refl
-call_lifts c clock client (call.NsClose conn) w s = driver_lifts c clock client (call.NsClose conn) w refl
-call_lifts c clock client (call.NsPoke addr bytes) w s = absurd (cc)
-call_lifts c clock client (call.NsKick queue head) w s = absurd (cc)
-call_lifts c clock client call.Finish w s = rest_lifts c clock client call.Finish w refl
-call_lifts c clock client (call.PortCreate path bufs size flags) w s = rest_lifts c clock client (call.PortCreate path bufs size flags) w refl
-call_lifts c clock client (call.Connect path flags) w s = rest_lifts c clock client (call.Connect path flags) w refl
-call_lifts c clock client (call.Accept port) w s = rest_lifts c clock client (call.Accept port) w refl
-call_lifts c clock client (call.Send chan bytes parts) w s = rest_lifts c clock client (call.Send chan bytes parts) w refl
-call_lifts c clock client (call.Get chan) w s = rest_lifts c clock client (call.Get chan) w refl
-call_lifts c clock client (call.Read chan id offset room parts) w s = rest_lifts c clock client (call.Read chan id offset room parts) w refl
-call_lifts c clock client (call.Put chan id) w s = rest_lifts c clock client (call.Put chan id) w refl
-call_lifts c clock client (call.SetCookie handle cookie) w s = rest_lifts c clock client (call.SetCookie handle cookie) w refl
-call_lifts c clock client (call.Close handle) w s = rest_lifts c clock client (call.Close handle) w refl
-call_lifts c clock client (call.Dup handle) w s = rest_lifts c clock client (call.Dup handle) w refl
-call_lifts c clock client call.SetCreate w s = rest_lifts c clock client call.SetCreate w refl
-call_lifts c clock client (call.SetAdd set handle mask cookie) w s = rest_lifts c clock client (call.SetAdd set handle mask cookie) w refl
-call_lifts c clock client (call.SetDel set label) w s = rest_lifts c clock client (call.SetDel set label) w refl
-call_lifts c clock client (call.SetMod set label mask cookie) w s = rest_lifts c clock client (call.SetMod set label mask cookie) w refl
-call_lifts c clock client (call.MemCreate size flags) w s = rest_lifts c clock client (call.MemCreate size flags) w refl
-call_lifts c clock client (call.MemRead handle offset len) w s = rest_lifts c clock client (call.MemRead handle offset len) w refl
-call_lifts c clock client (call.MemWrite handle offset bytes) w s = rest_lifts c clock client (call.MemWrite handle offset bytes) w refl
-call_lifts c clock client (call.Wait handle timeout) w s = rest_lifts c clock client (call.Wait handle timeout) w refl
-call_lifts c clock client (call.WaitAny timeout) w s = rest_lifts c clock client (call.WaitAny timeout) w refl
-call_lifts c clock client (call.Exit code) w s = rest_lifts c clock client (call.Exit code) w refl
+call_lifts c clock client asked w =
+    let P : Bool → Type 0 = λ b. is_client_call asked ≡ b
+    → option_map (beside_core c) (ns_act clock client asked w) ≡ option_map (beside c w.device) (called clock client asked (normal_of w)) in
+    let go : (b : Bool) → P b = λ b. elim b as (λ v. P v) [
+      | true ↦ (λ made. driver_lifts c clock client asked w made ∙ ap (option_map (beside c w.device)) (sym (driver_makes clock client asked (normal_of w) made)))
+      | false ↦ (λ rest. rest_lifts c clock client asked w rest)
+    ] in
+    go (is_client_call asked) refl
 
-pub begin_lifts : (s : State) (client start : ℕ) (asked : Call) → is_served asked ≡ true
+pub begin_lifts : (s : State) (client start : ℕ) (asked : Call)
     → option_map (beside_core s.core) (client_begin s client start asked) ≡ option_map (beside s.core s.world.device) (client_called s.core.clock client start asked (normal_of s.world))
 unfolding client_begin client_called
-begin_lifts s client start asked served =
+begin_lifts s client start asked =
     let n : Normal = normal_of s.world in
     let doing : (a : ClientActivity) → option_map (beside_core s.core) (client_call_as s client start asked a) ≡ option_map (beside s.core s.world.device) (called_as s.core.clock client start asked n a) =
     λ a. elim a as (λ v. option_map (beside_core s.core) (client_call_as s client start asked v) ≡ option_map (beside s.core s.world.device) (called_as s.core.clock client start asked n v)) [
       | activity.Running running ↦ elim (running == start) as (λ b. option_map (beside_core s.core) (cond b (ns_act s.core.clock client asked s.world) None)
           ≡ option_map (beside s.core s.world.device) (cond b (called s.core.clock client asked n) None)) [
-            | true ↦ call_lifts s.core s.core.clock client asked s.world served
+            | true ↦ call_lifts s.core s.core.clock client asked s.world
             | false ↦ refl
           ]
       | activity.Waiting waiting wait ↦ refl
@@ -270,13 +240,7 @@ pub client_step : (s : State) (threads client : ℕ) (e : Event) → threads ≡
 unfolding step client_acted
 client_step s threads client (event.Begin actor start asked) count of =
     let is : actor.0 ≡ length s.core.threads + client = omega (arith, of, count) in
-    let P : Bool → Type 0 = λ b. is_built asked ≡ b → cond b (begin s actor.0 start asked) None
-    ≡ option_map (beside s.core s.world.device) (cond b (client_called s.core.clock client start asked (normal_of s.world)) None) in
-    let go : (b : Bool) → P b = λ b. elim b as (λ v. P v) [
-      | true ↦ (λ built. begin_is s actor.0 client start asked is ∙ begin_lifts s client start asked (built_is_served asked built))
-      | false ↦ (λ unbuilt. refl)
-    ] in
-    go (is_built asked) refl
+    begin_is s actor.0 client start asked is ∙ begin_lifts s client start asked
 client_step s threads client (event.Resume actor start) count of =
     let is : actor.0 ≡ length s.core.threads + client = omega (arith, of, count) in
     resume_is s actor.0 client start is ∙ resume_lifts s client start

@@ -22,7 +22,7 @@ use Rattle.kernel_types.specs.History.{entry_of, next_state, state_or}
 use Rattle.kernel_types.specs.Kernel.{Did, Refused}
 use Rattle.kernel_types.specs.Opening.{opening, opening_activity, opening_client, opening_threads, without_clients}
 use Rattle.kernel_types.specs.Outcome.{Outcome}
-use Rattle.kernel_types.specs.Step.{Stepped, begin, device_stepped, step, in_world}
+use Rattle.kernel_types.specs.Step.{Stepped, device_stepped, step, in_world}
 use Rattle.kernel_types.specs.declared.kernel.StepRefused.{StepRefused}
 use Rattle.kernel_types.proofs.Actors.{begin_of_thread, below_is_thread, resume_of_thread}
 use Rattle.step_laws.proofs.Bridged.{DeviceKeepsIf, device_keeps}
@@ -55,10 +55,8 @@ in_world_stays clock w (Some outcome) keeps = keeps.kept
 thread_stays : (s : State) (e : Event) → IsOfThread (length s.core.threads) e → IsShortEvent e → IsTimely s.core.clock s.core → StaysOnTime s.core.clock (step s e)
 unfolding step
 thread_stays s (event.Begin actor start asked) of short t =
-    let done : StaysOnTime s.core.clock (begin s actor.0 start asked) =
     subst (λ (o : Option Stepped). StaysOnTime s.core.clock o) (sym (begin_of_thread s actor.0 start asked (below_is_thread s actor.0 of)))
-    (in_world_stays s.core.clock s.world (core_begin s.core actor.0 start asked) (begin_keeps s.core.clock s.core t actor.0 start asked short)) in
-    elim (is_built asked) as (λ b. StaysOnTime s.core.clock (cond b (begin s actor.0 start asked) None)) [ true ↦ done | false ↦ tt ]
+    (in_world_stays s.core.clock s.world (core_begin s.core actor.0 start asked) (begin_keeps s.core.clock s.core t actor.0 start asked short))
 thread_stays s (event.Resume actor start) of short t =
     subst (λ (o : Option Stepped). StaysOnTime s.core.clock o) (sym (resume_of_thread s actor.0 start (below_is_thread s actor.0 of)))
     (in_world_stays s.core.clock s.world (core_resume s.core actor.0 start) (resume_keeps s.core.clock s.core t actor.0 start))

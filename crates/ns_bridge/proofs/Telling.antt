@@ -1,5 +1,5 @@
 -- What the normal world keeps over a client's call and over the end of its wait.
-use Rattle.std.proofs.Common.{◌≡◌, ◌≤◌, ◌<◌, ℕ, zero, suc, ◌+◌, ◌==◌, Bool, true, false, cond, List, [], ◌∷◌, length, map, replicate, Option, Some, None, refl, sym, ◌∙◌, ap, subst, arith, tests}
+use Rattle.std.proofs.Common.{◌≡◌, ◌≤◌, ◌<◌, ℕ, zero, suc, ◌+◌, ◌==◌, Bool, true, cond, List, [], ◌∷◌, length, map, replicate, Option, Some, None, refl, sym, ◌∙◌, ap, subst, arith, tests}
 use Rattle.std.specs.Prelude.{slice_set}
 use Rattle.std.specs.List.{All}
 use Rattle.std.specs.Option.{option_map}
@@ -15,20 +15,20 @@ use Rattle.kernel_values.specs.declared.world.ClientWait.{ClientWait}
 use Rattle.kernel_values.specs.declared.world.ClientWaitOn.{ClientWaitOn}
 use Rattle.kernel_values.specs.declared.world.Driver.{Driver}
 use Rattle.kernel_types.specs.Clients.{Acted, client_changed, client_ended, client_running}
-use Rattle.kernel_values.specs.CallKinds.{drains}
+use Rattle.kernel_values.specs.CallKinds.{is_client_call}
 use Rattle.kernel_types.specs.Limits.{IsInboxWithin, full_room, room_of_call}
 use Rattle.kernel_types.specs.Objects.{map_at}
 use Rattle.kernel_types.specs.Opening.{opening_client, opening_driver}
 use Rattle.ns_driver.specs.Acts.{DriverOutcome, acted, awaited, bare, begun, told, wait_after, wait_if}
 use Rattle.ns_driver.specs.Value.{wait_of}
 use Rattle.ns_driver.specs.Worlds.{clients_with, deadline_after, resumed_by}
-use Rattle.ns_bridge.specs.Acts.{Answered, activity_at, asked_of_driver, call_told, called, called_of, client_called, client_resumed, done_without_driver, ended_answer, requests, resumed_of, run_again, wait_ended, wait_moves, with_ended, with_told}
+use Rattle.ns_bridge.specs.Acts.{Answered, activity_at, asked_of_driver, call_told, called, called_of, client_called, client_resumed, ended_answer, requests, resumed_of, run_again, wait_ended, wait_moves, with_ended, with_told}
 use Rattle.ns_bridge.specs.Parts.{Normal, parts}
 use Rattle.ns_bridge.specs.Waits.{AreAwaited, IsKept}
 use Rattle.ns_bridge.proofs.Awaiting.{begun_awaited, ended_awaited, opening_awaited, resumed_awaited, wait_is}
 use Rattle.ns_bridge.proofs.Counting.{call_adds, wait_adds}
 use Rattle.ns_bridge.proofs.Fitting.{FitsRoom, called_fits, resumed_fits}
-use Rattle.ns_bridge.proofs.Lifting.{drains_is_served, wait_done}
+use Rattle.ns_bridge.proofs.Lifting.{driver_makes, wait_done}
 
 -- Calls of the driver.
 
@@ -66,16 +66,16 @@ asking_is clock client asked copy deadline memory d clients after waits now befo
 same_number : (n : ℕ) → (n == n) ≡ true
 same_number n = grind (arith, tests)
 
--- a client that runs, and a call that drains
-called_is : (clock client start : ℕ) (asked : Call) (n : Normal) → activity_at n.clients client ≡ Some (activity.Running start) → drains asked ≡ true
+-- a client that runs, and a call that the driver makes
+called_is : (clock client start : ℕ) (asked : Call) (n : Normal) → activity_at n.clients client ≡ Some (activity.Running start) → is_client_call asked ≡ true
     → client_called clock client start asked n ≡ asked_of_driver clock client asked n
-unfolding client_called called
+unfolding client_called
 called_is clock client start asked n runs d =
     ap (λ o. called_of clock client start asked n o) runs
     ∙ (ap (λ b. cond b (called clock client asked n) None) (same_number start)
-    ∙ ap (λ b. cond b (asked_of_driver clock client asked n) (done_without_driver client asked n)) d)
+    ∙ driver_makes clock client asked n d)
 
-asked_adds : (clock client : ℕ) (asked : Call) (n : Normal) (a : Answered) → drains asked ≡ true → asked_of_driver clock client asked n ≡ Some a
+asked_adds : (clock client : ℕ) (asked : Call) (n : Normal) (a : Answered) → is_client_call asked ≡ true → asked_of_driver clock client asked n ≡ Some a
     → length a.normal.driver.connections ≤ length n.driver.connections + requests asked
 unfolding asked_of_driver
 asked_adds clock client asked n a d is =
@@ -88,14 +88,14 @@ asked_adds clock client asked n a d is =
     let go : (o : Option Acted) → P o = λ o. elim o as (λ v. P v) [ None ↦ (λ done left. absurd (cc)) | Some x ↦ some x ] in
     go (begun client asked (bare n.memory n.driver)) refl is
 
-pub asking_fits : (clock client start : ℕ) (asked : Call) (n : Normal) (a : Answered) → activity_at n.clients client ≡ Some (activity.Running start) → drains asked ≡ true
+pub asking_fits : (clock client start : ℕ) (asked : Call) (n : Normal) (a : Answered) → activity_at n.clients client ≡ Some (activity.Running start) → is_client_call asked ≡ true
     → All IsInboxWithin n.driver.connections → asked_of_driver clock client asked n ≡ Some a → FitsRoom (room_of_call asked) a
 asking_fits clock client start asked n a runs d inboxes is =
-    called_fits clock client start asked n a (drains_is_served asked d) inboxes (called_is clock client start asked n runs d ∙ is)
+    called_fits clock client start asked n a inboxes (called_is clock client start asked n runs d ∙ is)
 
 pub asking_keeps : (clock client start : ℕ) (asked : Call) (deadline : Option ℕ) (own : Option ClientWaitOn) (bytes : List ℕ) (d : Driver) (ons : List (Option ClientWaitOn))
     (clients : List ClientState) (count : ℕ) (answer : Answer) (after : List ℕ) (e : Driver) (now : List (Option ClientWaitOn)) (left : List ClientState)
-    → IsKept bytes d ons clients count → activity_at clients client ≡ Some (activity.Running start) → drains asked ≡ true → length after ≡ length bytes
+    → IsKept bytes d ons clients count → activity_at clients client ≡ Some (activity.Running start) → is_client_call asked ≡ true → length after ≡ length bytes
     → Some (record { answer = answer; normal = parts after e left }) ≡ asked_of_driver clock client asked (parts bytes d clients)
     → left ≡ clients_with client deadline own clients → now ≡ slice_set ons client own
     → IsKept after e now left (count + requests asked)

@@ -1,5 +1,5 @@
 -- A thread's step is the core's, and leaves the rest.
-use Rattle.std.proofs.Common.{◌≡◌, ◌≤◌, ◌<◌, ℕ, zero, suc, ◌+◌, ◌&&◌, Bool, true, false, cond, not, List, [], ◌∷◌, ◌++◌, length, map, Option, Some, None, refl, sym, ◌∙◌, ap, subst, arith, tests, length-append}
+use Rattle.std.proofs.Common.{◌≡◌, ◌≤◌, ◌<◌, ℕ, zero, suc, ◌+◌, ◌&&◌, Bool, false, cond, not, List, [], ◌∷◌, ◌++◌, length, map, Option, Some, None, refl, sym, ◌∙◌, ap, subst, arith, tests, length-append}
 use Rattle.std.specs.Prelude.{nat_le, slice_get}
 use Rattle.std.specs.Option.{option_map}
 use Rattle.std.proofs.lemmas.List.{length-map}
@@ -20,7 +20,7 @@ use Rattle.kernel_types.specs.History.{entry_of, state_or}
 use Rattle.kernel_types.specs.Kernel.{CauseHolds, Did, Refused, status_for, step_limit}
 use Rattle.kernel_types.specs.Limits.{FitsIn, full_room, no_room, room_of}
 use Rattle.kernel_types.specs.Outcome.{Outcome}
-use Rattle.kernel_types.specs.Step.{Stepped, begin, client_status, step, in_world, statuses}
+use Rattle.kernel_types.specs.Step.{Stepped, client_status, step, in_world, statuses}
 use Rattle.kernel_types.specs.declared.kernel.StepCause.{StepCause}
 use Rattle.kernel_types.specs.declared.kernel.StepCause.TheVariants.{NotMovable, Full, NoMemory}
 use Rattle.kernel_types.specs.declared.kernel.StepRefused.{StepRefused}
@@ -44,10 +44,8 @@ unfolding step
 thread_step c v w (event.Begin actor start asked) of =
     let s : State = record { core = c; world = w } in
     let t : State = record { core = c; world = v } in
-    let both : begin s actor.0 start asked ≡ option_map (moved w) (begin t actor.0 start asked) =
     begin_of_thread s actor.0 start asked (below_is_thread s actor.0 of)
-    ∙ (moved_in v w (core_begin c actor.0 start asked) ∙ ap (option_map (moved w)) (sym (begin_of_thread t actor.0 start asked (below_is_thread t actor.0 of)))) in
-    elim (is_built asked) as (λ b. cond b (begin s actor.0 start asked) None ≡ option_map (moved w) (cond b (begin t actor.0 start asked) None)) [ true ↦ both | false ↦ refl ]
+    ∙ (moved_in v w (core_begin c actor.0 start asked) ∙ ap (option_map (moved w)) (sym (begin_of_thread t actor.0 start asked (below_is_thread t actor.0 of))))
 thread_step c v w (event.Resume actor start) of =
     let s : State = record { core = c; world = w } in
     let t : State = record { core = c; world = v } in

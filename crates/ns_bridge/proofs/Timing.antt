@@ -20,7 +20,7 @@ use Rattle.kernel_values.specs.declared.state.WaitOn.{WaitOn}
 use Rattle.kernel_types.specs.Applications.{application_ended, ended_activity, ended_thread, is_started_again, started, started_as, started_thread, thread_ended, without_app}
 use Rattle.kernel_types.specs.Bridge.{bridging, ns_connect, ns_connect_by, ns_drop, ns_push, ns_take}
 use Rattle.kernel_types.specs.Device.{entry_dropped}
-use Rattle.kernel_types.specs.Connects.{Way, to_port, to_start, to_nothing, connected, pending_pair, started_unless_running, waiting_client, way_of}
+use Rattle.kernel_types.specs.Connects.{Way, to_port, to_start, to_nothing, pending_pair, started_unless_running, waiting_client, way_of}
 use Rattle.kernel_types.specs.CoreStep.{core_begin, core_resume}
 use Rattle.kernel_types.specs.Objects.{map_at, set_if}
 use Rattle.kernel_types.specs.Outcome.{Outcome}

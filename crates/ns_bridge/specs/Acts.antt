@@ -3,6 +3,9 @@ use Rattle.std.specs.Prelude.{ℕ, ◌+◌, ◌<◌, ◌==◌, ◌||◌, Bool, t
 use Rattle.std.specs.Option.{option_map}
 use Rattle.kernel_values.specs.declared.call.Call.{Call}
 use Rattle.kernel_values.specs.declared.call.Call.TheVariants as call
+use Rattle.kernel_values.specs.declared.call.CallKind.{CallKind}
+use Rattle.kernel_values.specs.declared.call.CallKind.TheVariants as kind
+use Rattle.kernel_values.specs.CallKinds.{kind_of}
 use Rattle.kernel_values.specs.declared.entry.Event.{Event}
 use Rattle.kernel_values.specs.declared.entry.Event.TheVariants as event
 use Rattle.kernel_values.specs.declared.errno.Errno.TheVariants as errno
@@ -17,7 +20,6 @@ use Rattle.kernel_values.specs.declared.world.ClientWait.{ClientWait}
 use Rattle.kernel_values.specs.declared.world.Device.{Device}
 use Rattle.kernel_values.specs.declared.world.Driver.{Driver}
 use Rattle.kernel_types.specs.Clients.{client_changed, client_ended, client_running}
-use Rattle.kernel_values.specs.CallKinds.{drains}
 use Rattle.kernel_types.specs.Objects.{map_at}
 use Rattle.kernel_types.specs.Outcome.{no_seqs}
 use Rattle.kernel_types.specs.Step.{Stepped}
@@ -46,7 +48,7 @@ with_told clients t = record { answer = t.answer; normal = record { memory = t.m
 abbrev pub activity_at : List ClientState → ℕ → Option ClientActivity
 activity_at clients client = option_map (λ state. state.activity) (slice_get clients client)
 
--- A call: one of those that drain is the driver's, and a client that finishes has ended.
+-- A call, by its kind: the driver makes those of its own and those past it, a client that finishes has ended, and a system call is none.
 
 abbrev pub clients_called : ℕ → ℕ → Call → Normal → Answer → List ClientState
 clients_called clock client asked n answer = clients_with client (deadline_after clock asked) (wait_if (awaited n.driver asked) answer) n.clients
@@ -61,12 +63,13 @@ asked_of_driver clock client asked n =
 abbrev pub finished : ℕ → Normal → Answered
 finished client n = record { answer = answer.Gives reply.Done; normal = with_clients (map_at (client_changed client_ended) n.clients client) n }
 
-abbrev pub done_without_driver : ℕ → Call → Normal → Option Answered
-done_without_driver client call.Finish n = Some (finished client n)
-done_without_driver client other n = None
+abbrev pub called_by : CallKind → ℕ → ℕ → Call → Normal → Option Answered
+called_by kind.Thread clock client asked n = None
+called_by kind.Finish clock client asked n = Some (finished client n)
+called_by other clock client asked n = asked_of_driver clock client asked n
 
 unfoldable pub called : ℕ → ℕ → Call → Normal → Option Answered
-called clock client asked n = (if drains asked then asked_of_driver clock client asked n else done_without_driver client asked n)
+called clock client asked n = called_by (kind_of asked) clock client asked n
 
 abbrev pub called_as : ℕ → ℕ → ℕ → Call → Normal → ClientActivity → Option Answered
 called_as clock client start asked n (activity.Running running) = (if running == start then called clock client asked n else None)
@@ -120,7 +123,7 @@ client_resumed clock client start n = resumed_of clock client start n (activity_
 
 -- What a client's event comes to, or nothing where it is not lawful; the client is told by its number among the clients.
 unfoldable pub client_acted : ℕ → ℕ → Event → Normal → Option Answered
-client_acted clock client (event.Begin actor start asked) n = (if is_built asked then client_called clock client start asked n else None)
+client_acted clock client (event.Begin actor start asked) n = client_called clock client start asked n
 client_acted clock client (event.Resume actor start) n = client_resumed clock client start n
 client_acted clock client other n = None
 

@@ -1,34 +1,15 @@
 -- Whether an event is lawful: by the kind of call, by what its actor does, and by whether that may move.
 use Rattle.std.specs.Prelude.{◌≡◌, ℕ, Bool, true, false, ◌==◌, ◌&&◌, Option, Some, None}
 use Rattle.kernel_values.specs.declared.call.Call.{Call}
-use Rattle.kernel_values.specs.declared.call.Call.TheVariants as call
 use Rattle.kernel_values.specs.declared.entry.ActorStatus.{ActorStatus}
 use Rattle.kernel_values.specs.declared.entry.ActorStatus.TheVariants as status
 use Rattle.kernel_values.specs.declared.entry.Event.{Event}
 use Rattle.kernel_values.specs.declared.entry.Event.TheVariants as event
 use Rattle.kernel_values.specs.declared.state.State.{State}
+use Rattle.kernel_values.specs.CallKinds.{is_of_client, is_of_thread}
 use Rattle.kernel_types.specs.Facts.{status_at}
 use Rattle.kernel_types.specs.Kernel.{step_limit}
 use Rattle.kernel_types.specs.Step.{device_has_work, idle_lawful, is_thread, movable}
-
--- a call that a thread makes
-abbrev pub is_of_thread : Call → Bool
-is_of_thread (call.NsConnect path) = false
-is_of_thread (call.NsSend conn bytes) = false
-is_of_thread (call.NsRecv conn timeout) = false
-is_of_thread (call.NsClose conn) = false
-is_of_thread (call.NsPoke addr bytes) = false
-is_of_thread (call.NsKick queue head) = false
-is_of_thread other = true
-
--- a call that a client makes, and no hostile one
-abbrev pub is_of_client : Call → Bool
-is_of_client (call.NsConnect path) = true
-is_of_client (call.NsSend conn bytes) = true
-is_of_client (call.NsRecv conn timeout) = true
-is_of_client (call.NsClose conn) = true
-is_of_client call.Finish = true
-is_of_client other = false
 
 -- a call of a thread, or else of a client
 abbrev pub makes : Bool → Call → Bool

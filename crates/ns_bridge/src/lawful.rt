@@ -2,54 +2,18 @@
 
 ghost use Rattle.std.specs.Prelude.{◌≡◌};
 ghost use Rattle.ns_bridge.specs.Lawful.{is_running_as, is_waiting_as, makes};
-ghost use Rattle.kernel_values.specs.CallKinds.{is_of_client, is_of_thread};
 ghost use Rattle.ns_bridge.specs.Timely.{IsShort, IsShortCall, IsShortEvent};
 
 use kernel_values::{ActorStatus, Call, Event, Timeout};
-
-/// Whether threads make the call.
-fn is_of_thread(call: &Call) -> bool
-    ensures { result ≡ is_of_thread call.now }
-{
-    match call {
-        Call::NsConnect { path: _ } => false,
-        Call::NsSend { conn: _, bytes: _ } => false,
-        Call::NsRecv {
-            conn: _,
-            timeout: _,
-        } => false,
-        Call::NsClose { conn: _ } => false,
-        Call::NsPoke { addr: _, bytes: _ } => false,
-        Call::NsKick { queue: _, head: _ } => false,
-        _ => true,
-    }
-}
-
-/// Whether clients make the call, and it is no hostile one.
-fn is_of_client(call: &Call) -> bool
-    ensures { result ≡ is_of_client call.now }
-{
-    match call {
-        Call::NsConnect { path: _ } => true,
-        Call::NsSend { conn: _, bytes: _ } => true,
-        Call::NsRecv {
-            conn: _,
-            timeout: _,
-        } => true,
-        Call::NsClose { conn: _ } => true,
-        Call::Finish => true,
-        _ => false,
-    }
-}
 
 /// Whether a thread, or else a client, makes the call.
 pub fn makes(of_thread: bool, call: &Call) -> bool
     ensures { result ≡ makes of_thread call.now }
 {
     if of_thread {
-        is_of_thread(call)
+        call.kind().is_of_thread()
     } else {
-        is_of_client(call)
+        call.kind().is_of_client()
     }
 }
 

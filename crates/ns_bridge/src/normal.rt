@@ -3,7 +3,7 @@
 ghost use Rattle.std.specs.Prelude.{◌≡◌, ◌<◌, ◌≤◌, ◌+◌, length, map, slice_set, Some, IfOk, IfNone, IfSome, IsTrue, OnErr, true};
 ghost use Rattle.std.specs.List.{All, list_any};
 ghost use Rattle.std.specs.Option.{is_some, option_map};
-ghost use Rattle.kernel_values.specs.CallKinds.{drains};
+ghost use Rattle.kernel_values.specs.CallKinds.{is_client_call};
 ghost use Rattle.kernel_types.specs.GuestMemory.{blank_memory, opening_memory};
 ghost use Rattle.kernel_types.specs.Kernel.{step_limit};
 ghost use Rattle.kernel_types.specs.Limits.{FitsIn, IsInboxWithin, full_room, room_by, room_of_call};
@@ -24,8 +24,8 @@ use crate::clients::{
 };
 use kernel_types::Core;
 use kernel_values::{
-    ActorStatus, Answer, Call, Client, ClientActivity, ClientState, ClientWait, Copied, Errno,
-    Event, Items, NoMemory, Reply,
+    ActorStatus, Answer, Call, CallKind, Client, ClientActivity, ClientState, ClientWait, Copied,
+    Errno, Event, Items, NoMemory, Reply,
 };
 use ns_device::{Bridge, DeviceOutcome};
 use ns_driver::Driver;
@@ -61,33 +61,6 @@ fn blank_memory(alloc: Global, len: usize) -> Result<Vec<u8>, AllocError>
     ensures { IfOk result (λ bytes. bytes.items ≡ blank_memory) }
 {
     vec![in alloc; 0u8; len]
-}
-
-/// Whether a kernel has a body for the call.
-pub fn is_built_call(call: &Call) -> bool
-    ensures { result ≡ is_built call.now }
-{
-    match call {
-        Call::NsPoke { addr: _, bytes: _ } => false,
-        Call::NsKick { queue: _, head: _ } => false,
-        _ => true,
-    }
-}
-
-/// Whether the driver makes the call.
-fn drains(call: &Call) -> bool
-    ensures { result ≡ drains call.now }
-{
-    match call {
-        Call::NsConnect { path: _ } => true,
-        Call::NsSend { conn: _, bytes: _ } => true,
-        Call::NsRecv {
-            conn: _,
-            timeout: _,
-        } => true,
-        Call::NsClose { conn: _ } => true,
-        _ => false,
-    }
 }
 
 /// Whether an address is left for each connection that the call may add to those that were asked for.
@@ -156,7 +129,7 @@ fn ask_driver(
 ) -> Result<Answer, NoMemory>
     requires memory { length memory.old ≡ MEMORY_SIZE }
     requires client { client < length driver.old.waits }
-    requires drains { IsTrue (drains call.now) }
+    requires made { IsTrue (is_client_call call.now) }
     requires room { HasRoom driver.old.driver call.now }
     ensures done { IfOk result (λ answer. Some (record { answer = answer; normal = parts memory.new driver.new.driver clients.new }) ≡ asked_of_driver clock client call.now (parts memory.old driver.old.driver clients.old)) }
     ensures clients { IfOk result (λ answer. clients.new ≡ clients_with client (deadline_after clock call.now) (wait_of driver.new.waits client) clients.old) }
@@ -206,7 +179,7 @@ impl NormalWorld {
 
     /// What a client's event comes to, or nothing where it is not lawful, and then all stays. The client is told by its number
     /// among the clients. Refused, all stands as before.
-    #[tactic(auto, unfolding(crate::specs::Acts::client_acted), using(crate::proofs::Lifting::built_is_served))]
+    #[tactic(auto, unfolding(crate::specs::Acts::client_acted))]
     pub fn act(
         &mut self,
         clock: u64,
@@ -223,13 +196,7 @@ impl NormalWorld {
                 actor: _,
                 start,
                 call,
-            } => {
-                if is_built_call(call) {
-                    self.call(clock, client, *start, call)
-                } else {
-                    Ok(None)
-                }
-            }
+            } => self.call(clock, client, *start, call),
             Event::Resume { actor: _, start } => self.resume(clock, client, *start),
             Event::Device | Event::Idle => Ok(None),
         }
@@ -258,27 +225,27 @@ impl NormalWorld {
         if running != start {
             return Ok(None);
         }
-        if drains(call) {
-            if !has_room(self.asked, call) {
-                return Err(NoMemory);
-            }
-            let answer = ask_driver(
-                &mut self.driver,
-                &mut self.memory,
-                &mut self.clients,
-                clock,
-                client,
-                call,
-            )?;
-            self.asked = asked_after(self.asked, call);
-            return Ok(Some(answer));
-        }
-        match call {
-            Call::Finish => {
+        match call.kind() {
+            CallKind::Thread => Ok(None),
+            CallKind::Finish => {
                 end(&mut self.clients, client);
                 Ok(Some(Answer::Gives(Reply::Done)))
             }
-            _ => Ok(None),
+            CallKind::Driver | CallKind::Direct => {
+                if !has_room(self.asked, call) {
+                    return Err(NoMemory);
+                }
+                let answer = ask_driver(
+                    &mut self.driver,
+                    &mut self.memory,
+                    &mut self.clients,
+                    clock,
+                    client,
+                    call,
+                )?;
+                self.asked = asked_after(self.asked, call);
+                Ok(Some(answer))
+            }
         }
     }
 

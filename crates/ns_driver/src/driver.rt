@@ -66,9 +66,10 @@ impl Driver {
         })
     }
 
-    /// A client's call, or with `None` the end of its wait. The driver drains both used rings, and then answers; it
-    /// answers `Waits` where nothing is there that would end the wait. A call replaces a former wait of the client.
-    /// Refused for want of memory, all stands as before.
+    /// A client's call but `Finish`, or with `None` the end of its wait. The driver drains both used rings, and then
+    /// answers; it answers `Waits` where nothing is there that would end the wait. A call past the driver, which writes
+    /// memory or a ring, drains nothing. A call replaces a former wait of the client. Refused for want of memory, all
+    /// stands as before.
     pub fn act(
         &mut self,
         mem: &mut [u8],

@@ -1,5 +1,5 @@
 -- The calls that threads make, those that clients make, and `finish` with both; the kernel has a body for each.
-use Rattle.std.proofs.Common.{◌≡◌, ℕ, Bool, true, false, refl}
+use Rattle.std.proofs.Common.{◌≡◌, ℕ, Bool, true, refl}
 use Rattle.std.specs.Option.{is_some}
 use Rattle.kernel_values.specs.CallKinds.{is_client_call, is_of_client, is_of_thread, is_thread_call}
 use Rattle.kernel_values.specs.declared.call.Call.{Call}

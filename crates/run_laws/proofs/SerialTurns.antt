@@ -86,28 +86,6 @@ no_turns scripts left last run none_left = ap (λ (o : Option Turn). elim o as (
   ]
 ]) none_left
 
-no_turns_more : (scripts : List (List Command)) (left : ℕ) (last : Option ℕ) (run : Run) (t : Turn) → next_turn run.state last ≡ Some t → run_turn step scripts run t ≡ None
-    → serial_from step scripts (suc left) last run ≡ []
-no_turns_more scripts left last run t next_is is =
-    ap (λ (o : Option Turn). elim o as (λ _. List Turn) [
-      | None ↦ []
-      | Some u ↦ elim (run_turn step scripts run u) as (λ _. List Turn) [
-        | None ↦ []
-        | Some after ↦ u ∷ serial_from step scripts left (last_after last u) after
-      ]
-    ]) next_is ∙ ap (λ (r : Option Run). elim r as (λ _. List Turn) [
-      | None ↦ []
-      | Some after ↦ t ∷ serial_from step scripts left (last_after last t) after
-    ]) is
-
--- they end where the turn that is due is not lawful
-pub serial_still : (scripts : List (List Command)) (limit k : ℕ) (last : Option ℕ) (run : Run) (t : Turn) → k < limit → next_turn run.state last ≡ Some t
-    → run_turn step scripts run t ≡ None → run_from step scripts k run (serial_from step scripts (limit - k) last run) ≡ ran run
-serial_still scripts limit k last run t below next_is is =
-    let left : limit - k ≡ suc (limit - (k + 1)) = omega (arith, below) in
-    ap (λ n. run_from step scripts k run (serial_from step scripts n last run)) left
-    ∙ ap (λ ts. run_from step scripts k run ts) (no_turns_more scripts (limit - (k + 1)) last run t next_is is)
-
 pub serial_step : (scripts : List (List Command)) (limit k : ℕ) (last : Option ℕ) (run next : Run) (t : Turn) → k < limit → next_turn run.state last ≡ Some t
     → run_turn step scripts run t ≡ Some next
     → run_from step scripts k run (serial_from step scripts (limit - k) last run) ≡ run_from step scripts (k + 1) next (serial_from step scripts (limit - (k + 1)) (last_after last t) next)

@@ -1,4 +1,5 @@
 -- A kernel with all that a run shares may go to another thread where the kernel may.
+use denote.Builtin.{u64}
 use denote.RattleType.{RattleType}
 use denote.Param.Send.{IsSend, view_send}
 use denote.Param.SendFields.{declared_send, as_row_send}
@@ -36,6 +37,6 @@ shared_send K g s =
       as_row_send (logged.the_field K g) (logged_send K g s),
       (
         as_row_send (items_field script_row) (items.the_send script_row script.the_send),
-        (vec.the_send place_row global_row ghosts place.the_send global.the_send frees, (bell.the_send, (search rules, tt))),
+        (vec.the_send place_row global_row ghosts place.the_send global.the_send frees, (vec.the_send u64 global_row ghosts (search rules) global.the_send frees, (bell.the_send, (search rules, tt)))),
       ),
     ))

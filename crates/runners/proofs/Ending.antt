@@ -6,18 +6,16 @@ use Rattle.kernel_values.specs.declared.script.Command.{Command}
 use Rattle.kernel_values.specs.declared.state.State.{State}
 use Rattle.kernel_values.specs.Origin.{Origin}
 use Rattle.kernel_values.specs.SceneLaw.{IsLawfulScene, SceneValue, scripts_of}
-use Rattle.std.specs.List.{list_all}
-use Rattle.kernel_types.specs.Carried.{CarriedInOrder, is_honest}
+use Rattle.kernel_types.specs.Carried.{CarriedInOrder}
 use Rattle.kernel_types.specs.Facts.{is_at_end}
 use Rattle.kernel_types.specs.History.{Legal, state_after}
 use Rattle.kernel_types.specs.Opening.{opening}
 use Rattle.kernel_types.specs.Step.{step}
-use Rattle.kernel_types.specs.Turns.{Run, Outturn, ran, refused, run_turn, run_from, run_by, replay_of, whole_or_refused, serial_from, serial_turns, next_turn, last_after, history_limit}
+use Rattle.kernel_types.specs.Turns.{Run, Outturn, ran, refused, run_from, run_by, replay_of, whole_or_refused, serial_from, serial_turns, next_turn, last_after, history_limit}
 use Rattle.kernel_types.specs.Whole.{FollowsScripts}
 use Rattle.kernel_log.specs.Logs.{Log, state_of}
-use Rattle.run_laws.proofs.SerialTurns.{from_refused, from_turn, serial_full, serial_over, serial_step, serial_still, turn_grows}
-use Rattle.run_laws.proofs.Going.{next_takes}
-use Rattle.runners.specs.Runs.{Carries, IsRun, ScriptedRun, origin_of, state_told, run_told, run_logged, RanSerially, StandsStill, StoodStill, IsRunBy, IsWholeRun, IsCutShort, IsReplay, TookTurn}
+use Rattle.run_laws.proofs.SerialTurns.{from_refused, from_turn, serial_full, serial_over, serial_step, turn_grows}
+use Rattle.runners.specs.Runs.{Carries, IsRun, ScriptedRun, origin_of, state_told, run_told, run_logged, RanSerially, IsRunBy, IsWholeRun, IsCutShort, IsReplay, TookTurn}
 use Rattle.runners.specs.declared.steps.Taken.{Taken}
 use Rattle.runners.specs.declared.steps.Taken.TheVariants as taken
 
@@ -114,47 +112,6 @@ ran_full told mid k last stays left past within count = record {
   run_is = sym left ∙ serial_full mid.origin.scripts history_limit k last (run_told mid) past;
   full = λ goes_on. omega (arith, count, past, within);
 }
-
--- where the turn that is due is not lawful
-
-pub same_told : (one other : ScriptedRun) → one.origin ≡ other.origin → one.history ≡ other.history → one ≡ other
-same_told one other p q = ap (λ (o : Origin). record { origin = o; history = one.history }) p ∙ ap (λ (es : List Entry). record { origin = other.origin; history = es }) q
-
-pub stood_still : (told mid : ScriptedRun) (k : ℕ) (last : Option ℕ) (t : Turn) → mid.origin ≡ told.origin → k < history_limit → next_turn (state_told mid) last ≡ Some t
-    → run_turn step mid.origin.scripts (run_told mid) t ≡ None → Left told mid k last → StoodStill told mid
-stood_still told mid k last t stays below due_is unlawful left = record {
-  origin_is = stays;
-  run_is = sym left ∙ serial_still mid.origin.scripts history_limit k last (run_told mid) t below due_is unlawful;
-  last = last;
-  due = t;
-  due_is = due_is;
-  unlawful = unlawful;
-}
-
-hostile_by : (scene : SceneValue) (run : Run) (last : Option ℕ) (due : Turn) (b : Bool) → list_all is_honest scene.clients ≡ b → IsLawfulScene scene
-    → run_by scene (serial_turns scene) ≡ ran run → next_turn run.state last ≡ Some due → run_turn step (scripts_of scene) run due ≡ None → b ≡ false
-hostile_by scene run last due true honest lawful run_is due_is unlawful =
-    let taken : (next : Run) × (run_turn step (scripts_of scene) run due ≡ Some next) = next_takes scene (serial_turns scene) run last due lawful honest run_is due_is in
-    let none : run_turn step (scripts_of scene) run due ≡ None = unlawful in
-    let some : run_turn step (scripts_of scene) run due ≡ Some taken.0 = taken.1 in
-    absurd (cc)
-hostile_by scene run last due false honest lawful run_is due_is unlawful = refl
-
-pub stands_still : (scene : SceneValue) (told next : ScriptedRun) → IsLawfulScene scene → told.origin ≡ record { state = opening scene; scripts = scripts_of scene; made = 0 } → told.history ≡ []
-    → StoodStill told next → StandsStill scene
-stands_still scene told next lawful origin_is none_yet still =
-    let run_is : run_by scene (serial_turns scene) ≡ ran (run_told next) = serial_is scene told next origin_is none_yet still.run_is in
-    let unlawful : run_turn step (scripts_of scene) (run_told next) still.due ≡ None =
-    subst (λ (o : Origin). run_turn step o.scripts (run_told next) still.due ≡ None) (still.origin_is ∙ origin_is) still.unlawful in
-    record {
-      run = run_told next;
-      run_is = run_is;
-      last = still.last;
-      due = still.due;
-      due_is = still.due_is;
-      unlawful = unlawful;
-      hostile = hostile_by scene (run_told next) still.last still.due (list_all is_honest scene.clients) refl lawful run_is still.due_is unlawful;
-    }
 
 pub history_grows : (mid next : ScriptedRun) (t : Turn) (k : ℕ) → TookTurn t mid next taken.Stepped → length mid.history ≡ k → length next.history ≡ k + 1
 history_grows mid next t k took count = omega (arith, turn_grows mid.origin.scripts (run_told mid) (run_told next) t took, count)

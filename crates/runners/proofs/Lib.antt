@@ -1,6 +1,8 @@
+pub mod Counts
 pub mod Crossing
 pub mod Ending
 pub mod Fitting
+pub mod Meeting
 pub mod Serving
 pub mod Starting
 pub mod Stepping

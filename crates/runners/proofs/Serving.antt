@@ -1,5 +1,5 @@
 -- What the turns of a worker add.
-use Rattle.std.proofs.Common.{◌≡◌, ℕ, ◌-◌, Bool, false, length, length-append, arith, List, [], ◌∷◌, ◌++◌, Option, Some, None, refl, ap, sym, ◌∙◌, subst}
+use Rattle.std.proofs.Common.{◌≡◌, ℕ, List, Option, Some, None, refl, ap, sym, subst}
 use Rattle.kernel_values.specs.declared.call.Call.{Call}
 use Rattle.kernel_values.specs.declared.entry.ActorStatus.{ActorStatus}
 use Rattle.kernel_values.specs.declared.entry.ActorStatus.TheVariants as status
@@ -14,14 +14,12 @@ use Rattle.kernel_types.specs.History.{entry_of}
 use Rattle.kernel_types.specs.Scripts.{next_call, stand_on, script_begin}
 use Rattle.kernel_types.specs.Whole.{answers_in}
 use Rattle.kernel_types.specs.Step.{Stepped, step}
-use Rattle.kernel_types.specs.Turns.{Run, grown, run_event, event_of, begin_if, begin_by_script, event_by_status}
+use Rattle.kernel_types.specs.Turns.{Run, grown, run_event, run_turn, event_of, begin_if, begin_by_script, event_by_status}
 use Rattle.std.specs.Prelude.{slice_get}
 use Rattle.runners.specs.declared.steps.Taken.TheVariants as taken
-use Rattle.runners.specs.Runs.{ScriptedRun, run_told, TookTurn}
-use Rattle.runners.specs.Places.{is_answer_to, last_is_answer_to}
+use Rattle.runners.specs.Runs.{CanTake, ScriptedRun, run_told, TookTurn}
 use Rattle.runners.specs.Workers.{IsOwn, IsTurnOf, AddsOwn, Served}
 use Rattle.runners.specs.declared.rounds.Round.TheVariants as round
-use Rattle.runners.proofs.Stepping.{get_last}
 
 -- the event of an actor's turn is the actor's
 
@@ -68,27 +66,13 @@ event_adds : (actor : ℕ) (run next : Run) (e : Option Event) → ((f : Event) 
 event_adds actor run next None own is = absurd (cc)
 event_adds actor run next (Some e) own is = step_adds actor run next e (step run.state e) (own e refl) refl is
 
-took_own : (actor : ℕ) (t : Turn) (told next : ScriptedRun) → IsTurnOf actor t → TookTurn t told next taken.Stepped → AddsOwn actor told.history next.history
-took_own actor t told next is took =
+pub served_step : (actor : ℕ) (t : Turn) (told next : ScriptedRun) → IsTurnOf actor t → TookTurn t told next taken.Stepped → Served actor told next round.Stepped
+served_step actor t told next is took =
     event_adds actor (run_told told) (run_told next) (event_of told.origin.scripts (run_told told) t) (λ e means. event_own told.origin.scripts (run_told told) actor t e is means) took
 
--- and the last entry tells whether an answer came by it
-
-last_entry : (entries : List Entry) (entry : Entry) → slice_get (entries ++ entry ∷ []) (length (entries ++ entry ∷ []) - 1) ≡ Some entry
-last_entry entries entry =
-    let at : length (entries ++ entry ∷ []) - 1 ≡ length entries = omega (arith, length-append entries (entry ∷ [])) in
-    ap (λ n. slice_get (entries ++ entry ∷ []) n) at ∙ get_last entries entry
-
-answer_by_last : (actor : ℕ) (entries longer : List Entry) (entry : Entry) → longer ≡ entries ++ entry ∷ [] → last_is_answer_to actor longer ≡ is_answer_to actor entry
-answer_by_last actor entries longer entry is =
-    ap (λ (es : List Entry). last_is_answer_to actor es) is
-    ∙ ap (λ (o : Option Entry). elim o as (λ _. Bool) [
-      | None ↦ false
-      | Some last ↦ is_answer_to actor last
-    ]) (last_entry entries entry)
-
-pub served_step : (actor : ℕ) (t : Turn) (told next : ScriptedRun) (answered : Bool) → IsTurnOf actor t → TookTurn t told next taken.Stepped
-    → answered ≡ last_is_answer_to actor next.history → Served actor told next (round.Stepped answered)
-served_step actor t told next answered is took answered_is =
-    let adds : AddsOwn actor told.history next.history = took_own actor t told next is took in
-    (adds, answered_is ∙ answer_by_last actor told.history next.history adds.entry adds.longer_is)
+-- a turn that can be taken is lawful
+pub never_unlawful : (t : Turn) (told next : ScriptedRun) → CanTake told t → TookTurn t told next taken.Unlawful → ⊥
+never_unlawful t told next can took =
+    let some : run_turn step told.origin.scripts (run_told told) t ≡ Some can.0 = can.1 in
+    let none : run_turn step told.origin.scripts (run_told told) t ≡ None = took.0 in
+    absurd (cc)

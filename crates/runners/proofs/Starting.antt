@@ -4,6 +4,7 @@ use Rattle.std.specs.Prelude.{slice_get, nat_le, ◌&&◌}
 use Rattle.std.specs.List.{flat_map, enumerate_from, list_all}
 use Rattle.std.proofs.lemmas.List.{length-map}
 use Rattle.std.proofs.lemmas.Bool.Decides.{nat_tests}
+use Rattle.kernel_values.specs.declared.entry.Entry.{Entry}
 use Rattle.kernel_values.specs.declared.scene.App.{App}
 use Rattle.kernel_values.specs.declared.script.Command.{Command}
 use Rattle.kernel_values.specs.declared.state.State.{State}
@@ -11,7 +12,7 @@ use Rattle.kernel_values.specs.SceneLaw.{SceneValue, IsLawfulScene, scripts_of, 
 use Rattle.kernel_types.specs.History.{state_after}
 use Rattle.kernel_types.specs.Opening.{opening, opening_threads}
 use Rattle.kernel_types.specs.Step.{statuses}
-use Rattle.kernel_types.specs.Turns.{history_limit}
+use Rattle.kernel_types.specs.Turns.{history_limit, ran, run_by}
 use Rattle.kernel_log.specs.Logs.{Log, state_of}
 use Rattle.runners.specs.declared.place.Place.{Place}
 use Rattle.runners.specs.Places.{PlaceFits, Sound, first_place, most_actors}
@@ -59,15 +60,15 @@ get_places [] number script is = absurd (cc)
 get_places (first ∷ scripts) zero script is = let same : first ≡ script = cc in ap (λ (s : List Command). Some (first_place s)) same
 get_places (first ∷ scripts) (suc number) script is = get_places scripts number script is
 
-first_start : (scripts : List (List Command)) (number : ℕ) (place : Place) → slice_get (map first_place scripts) number ≡ Some place → place.actor.start ≡ 1
+pub first_start : (scripts : List (List Command)) (number : ℕ) (place : Place) → slice_get (map first_place scripts) number ≡ Some place → place.actor.start ≡ 1
 first_start [] number place is = absurd (cc)
 first_start (first ∷ scripts) zero place is = let same : first_place first ≡ place = cc in ap (λ (p : Place). p.actor.start) (sym same)
 first_start (first ∷ scripts) (suc number) place is = first_start scripts number place is
 
-pub sound_new : (scene : SceneValue) (scripts : List (List Command)) (places : List Place) (log : Log) → scripts ≡ scripts_of scene → length scripts ≤ most_actors → places ≡ map first_place scripts
+pub sound_new : (scene : SceneValue) (scripts : List (List Command)) (places : List Place) (log : Log) → IsLawfulScene scene → scripts ≡ scripts_of scene → length scripts ≤ most_actors → places ≡ map first_place scripts
     → log.origin.state ≡ opening scene → log.origin.made ≡ 0 → log.journal.entries ≡ [] → Sound scripts places log
-unfolding history_limit
-sound_new scene scripts places log scripts_is few places_is state_is made_is none_yet =
+unfolding history_limit run_by
+sound_new scene scripts places log lawful scripts_is few places_is state_is made_is none_yet =
     let state : state_of log ≡ opening scene = ap (λ es. state_after log.origin.state es) none_yet ∙ state_is in
     record {
       kept = λ number script script_is. (
@@ -76,7 +77,15 @@ sound_new scene scripts places log scripts_is few places_is state_is made_is non
         subst (λ es. PlaceFits number script es (first_place script)) (sym none_yet) (fits_first number script),
       );
       ran = λ number place place_is. inl (first_start scripts number place (sym (ap (λ (ps : List Place). slice_get ps number) places_is) ∙ place_is));
-      opened = (scene, state_is);
+      of_scene = record {
+        scene = scene;
+        lawful = lawful;
+        scripts_are = scripts_is;
+        state_is = state_is;
+        turns = [];
+        run_is = ap (λ (s : State). ran (record { state = s; entries = [] })) (sym state)
+            ∙ ap (λ (es : List Entry). ran (record { state = state_of log; entries = es })) (sym none_yet);
+      };
       many = ap length places_is ∙ length-map scripts first_place;
       actors = ap (λ (s : State). length (statuses s)) state ∙ (actors_many scene ∙ ap length (sym scripts_is));
       few = few;

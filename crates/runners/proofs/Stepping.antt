@@ -10,6 +10,7 @@ use Rattle.kernel_values.specs.declared.entry.Event.{Event}
 use Rattle.kernel_values.specs.declared.entry.Event.TheVariants as event
 use Rattle.kernel_values.specs.declared.entry.ActorStatus.TheVariants as status
 use Rattle.kernel_values.specs.declared.reply.Answer.{Answer}
+use Rattle.kernel_values.specs.declared.scene.Turn.{Turn}
 use Rattle.kernel_values.specs.declared.scene.Turn.TheVariants as turn
 use Rattle.kernel_values.specs.declared.script.Command.{Command}
 use Rattle.kernel_values.specs.declared.state.State.{State}
@@ -18,14 +19,15 @@ use Rattle.kernel_types.specs.Whole.{is_by, answers_in}
 use Rattle.kernel_types.specs.History.{next_state, state_after, state_or, step_entry, entry_of}
 use Rattle.kernel_types.specs.Facts.{status_at}
 use Rattle.kernel_types.specs.Step.{Stepped, step, statuses}
-use Rattle.kernel_types.specs.Turns.{Run, grown, run_event, event_of, begin_if, history_limit}
+use Rattle.kernel_types.specs.Turns.{Run, grown, ran, run_event, run_turn, event_of, begin_if, history_limit}
 use Rattle.kernel_log.specs.Logs.{Log, state_of, Wrote}
 use Rattle.runners.specs.declared.place.Place.{Place}
-use Rattle.runners.specs.Places.{AllRan, PlaceFits, HasRun, PlacesFit, Sound}
+use Rattle.runners.specs.Places.{AllRan, PlaceFits, HasRun, IsOfScene, PlacesFit, Sound}
 use Rattle.runners.specs.Runs.{run_logged}
 use Rattle.runners.specs.Steps.{IsSameLog}
 use Rattle.runners.proofs.Fitting.{IsNotBy, fits_other}
 use Rattle.run_laws.proofs.Counting.{actors_stay}
+use Rattle.run_laws.proofs.SerialTurns.{run_more}
 
 state_more : (s : State) (entries : List Entry) (entry : Entry) → state_after s (entries ++ entry ∷ []) ≡ next_state (state_after s entries) entry.event
 state_more s [] entry = refl
@@ -137,36 +139,71 @@ ran_longer s entries entry number start has = elim has [
   | inr p ↦ inr (p.0, p.1 ++ entry ∷ [], ap (λ es. es ++ entry ∷ []) p.2 ∙ append_assoc p.0 p.1 (entry ∷ []), p.3)
 ]
 
+pub ran_more : (places : List Place) (s : State) (entries : List Entry) (entry : Entry) → AllRan places s entries → AllRan places s (entries ++ entry ∷ [])
+ran_more places s entries entry rans number place there = ran_longer s entries entry number place.actor.start (rans number place there)
+
 all_ran_longer : (places : List Place) (log longer : Log) (e : Event) (at : ℕ) → Wrote e log longer at → AllRan places log.origin.state log.journal.entries
     → AllRan places longer.origin.state longer.journal.entries
-all_ran_longer places log longer e at wrote ran number place there =
+all_ran_longer places log longer e at wrote rans number place there =
     subst (λ (s : State). HasRun s longer.journal.entries number place.actor.start) (sym (ap (λ o. o.state) wrote.origin_is))
     (subst (λ (es : List Entry). HasRun log.origin.state es number place.actor.start) (sym wrote.entries_are)
-    (ran_longer log.origin.state log.journal.entries wrote.entry number place.actor.start (ran number place there)))
+    (ran_longer log.origin.state log.journal.entries wrote.entry number place.actor.start (rans number place there)))
 
 -- with one place changed, in which the actor stands by a start by which it ran
 pub all_ran_set : (places : List Place) (s : State) (entries : List Entry) (number : ℕ) (place moved : Place) → AllRan places s entries → slice_get places number ≡ Some place
     → HasRun s entries number moved.actor.start → AllRan (slice_set places number moved) s entries
-all_ran_set places s entries number place moved ran there own other x x_is = elim (cases_eq number other) [
+all_ran_set places s entries number place moved rans there own other x x_is = elim (cases_eq number other) [
   | inl same ↦ (let here : slice_get (slice_set places number moved) number ≡ Some x = ap (λ n. slice_get (slice_set places number moved) n) same ∙ x_is in
       let is : moved ≡ x = (let set : slice_get (slice_set places number moved) number ≡ Some moved = get_set_same places number place moved there in cc) in
       subst (λ (p : Place). HasRun s entries other p.actor.start) is (subst (λ n. HasRun s entries n moved.actor.start) same own))
-  | inr differs ↦ ran other x (sym (get_set_other places number other moved differs) ∙ x_is)
+  | inr differs ↦ rans other x (sym (get_set_other places number other moved differs) ∙ x_is)
 ]
 
 -- the places after a step
 
-rest_of_sound : (scripts : List (List Command)) (places moved : List Place) (log longer : Log) (e : Event) (at : ℕ) → Sound scripts places log → Wrote e log longer at
+-- the event of a turn
+abbrev pub IsDue : List (List Command) → Log → Event → Type 0
+IsDue scripts log e = (t : Turn) × (event_of scripts (run_logged log) t ≡ Some e)
+
+of_longer : (scripts : List (List Command)) (log longer : Log) (e : Event) (at : ℕ) → IsOfScene scripts log → IsDue scripts log e → Wrote e log longer at → IsOfScene scripts longer
+of_longer scripts log longer e at of due wrote =
+    let took : run_turn step scripts (run_logged log) due.0 ≡ Some (run_logged longer) =
+    ap (λ (o : Option Event). run_event step (run_logged log) o) due.1 ∙ took_event log longer e at wrote in
+    record {
+      scene = of.scene;
+      lawful = of.lawful;
+      scripts_are = of.scripts_are;
+      state_is = ap (λ o. o.state) wrote.origin_is ∙ of.state_is;
+      turns = of.turns ++ due.0 ∷ [];
+      run_is = run_more of.scene of.turns (run_logged log) (run_logged longer) due.0 of.run_is
+          (subst (λ (cs : List (List Command)). run_turn step cs (run_logged log) due.0 ≡ Some (run_logged longer)) of.scripts_are took);
+    }
+
+of_same : (scripts : List (List Command)) (log same : Log) → IsOfScene scripts log → IsSameLog log same → IsOfScene scripts same
+of_same scripts log same of is =
+    let run : run_logged log ≡ run_logged same =
+    ap (λ (es : List Entry). record { state = state_after log.origin.state es; entries = es }) (sym is.1)
+    ∙ ap (λ (s : State). record { state = state_after s same.journal.entries; entries = same.journal.entries }) (sym (ap (λ o. o.state) is.0)) in
+    record {
+      scene = of.scene;
+      lawful = of.lawful;
+      scripts_are = of.scripts_are;
+      state_is = ap (λ o. o.state) is.0 ∙ of.state_is;
+      turns = of.turns;
+      run_is = of.run_is ∙ ap (λ (r : Run). ran r) run;
+    }
+
+rest_of_sound : (scripts : List (List Command)) (places moved : List Place) (log longer : Log) (e : Event) (at : ℕ) → Sound scripts places log → IsDue scripts log e → Wrote e log longer at
     → length log.journal.entries < history_limit → length moved ≡ length places → PlacesFit scripts moved longer.journal.entries
     → AllRan moved log.origin.state log.journal.entries → Sound scripts moved longer
-rest_of_sound scripts places moved log longer e at sound wrote room many kept ran =
+rest_of_sound scripts places moved log longer e at sound due wrote room many kept rans =
     let found : (stepped : Stepped) × (step (state_of log) e ≡ Some stepped) × (wrote.entry ≡ entry_of e stepped) = wrote_is (state_of log) e wrote.entry wrote.entry_is in
     let state : state_of longer ≡ found.0.state = longer_state log longer e at wrote found.0 found.1 found.2 in
     let longer_by : length longer.journal.entries ≡ length log.journal.entries + 1 = ap length wrote.entries_are ∙ length-append log.journal.entries (wrote.entry ∷ []) in
     record {
       kept = kept;
-      ran = all_ran_longer moved log longer e at wrote ran;
-      opened = (sound.opened.0, ap (λ o. o.state) wrote.origin_is ∙ sound.opened.1);
+      ran = all_ran_longer moved log longer e at wrote rans;
+      of_scene = of_longer scripts log longer e at sound.of_scene due wrote;
       many = many ∙ sound.many;
       actors = ap (λ (s : State). length (statuses s)) state ∙ ((ap (λ (s : State). length (statuses s)) (sym (next_is (state_of log) e found.0 found.1)) ∙ actors_stay (state_of log) e) ∙ sound.actors);
       few = sound.few;
@@ -204,29 +241,29 @@ kept_one scripts places entries number place moved kept there own other script s
 ]
 
 -- after a step of an actor
-pub sound_own : (scripts : List (List Command)) (places : List Place) (log longer : Log) (e : Event) (at number : ℕ) (place moved : Place) → Sound scripts places log → (wrote : Wrote e log longer at)
+pub sound_own : (scripts : List (List Command)) (places : List Place) (log longer : Log) (e : Event) (at number : ℕ) (place moved : Place) → Sound scripts places log → IsDue scripts log e → (wrote : Wrote e log longer at)
     → length log.journal.entries < history_limit → slice_get places number ≡ Some place → moved.actor.start ≡ place.actor.start
     → ((script : List Command) → slice_get scripts number ≡ Some script → PlaceFits number script (log.journal.entries ++ wrote.entry ∷ []) moved)
     → ((other : ℕ) → (number ≡ other → ⊥) → IsNotBy other e) → Sound scripts (slice_set places number moved) longer
-sound_own scripts places log longer e at number place moved sound wrote room there same_start own apart =
+sound_own scripts places log longer e at number place moved sound due wrote room there same_start own apart =
     let is : wrote.entry.event ≡ e = event_by log longer e at wrote in
     let kept : PlacesFit scripts (slice_set places number moved) (log.journal.entries ++ wrote.entry ∷ []) =
     kept_own scripts places log.journal.entries wrote.entry number place moved sound.kept there own
     (λ other differs. subst (λ (f : Event). IsNotBy other f) (sym is) (apart other differs)) in
-    rest_of_sound scripts places (slice_set places number moved) log longer e at sound wrote room (length_set places number moved)
+    rest_of_sound scripts places (slice_set places number moved) log longer e at sound due wrote room (length_set places number moved)
     (subst (λ (es : List Entry). PlacesFit scripts (slice_set places number moved) es) (sym wrote.entries_are) kept)
     (all_ran_set places log.origin.state log.journal.entries number place moved sound.ran there
     (subst (λ n. HasRun log.origin.state log.journal.entries number n) (sym same_start) (sound.ran number place there)))
 
 -- after a step of none
-pub sound_free : (scripts : List (List Command)) (places : List Place) (log longer : Log) (e : Event) (at : ℕ) → Sound scripts places log → Wrote e log longer at
+pub sound_free : (scripts : List (List Command)) (places : List Place) (log longer : Log) (e : Event) (at : ℕ) → Sound scripts places log → IsDue scripts log e → Wrote e log longer at
     → length log.journal.entries < history_limit → ((other : ℕ) → IsNotBy other e) → Sound scripts places longer
-sound_free scripts places log longer e at sound wrote room apart =
+sound_free scripts places log longer e at sound due wrote room apart =
     let is : wrote.entry.event ≡ e = event_by log longer e at wrote in
     let kept : PlacesFit scripts places (log.journal.entries ++ wrote.entry ∷ []) = λ other script script_is.
     (let old : (x : Place) × (slice_get places other ≡ Some x) × PlaceFits other script log.journal.entries x = sound.kept other script script_is in
     (old.0, old.1, fits_other other script log.journal.entries wrote.entry old.0 (subst (λ (f : Event). IsNotBy other f) (sym is) (apart other)) old.2)) in
-    rest_of_sound scripts places places log longer e at sound wrote room refl (subst (λ (es : List Entry). PlacesFit scripts places es) (sym wrote.entries_are) kept) sound.ran
+    rest_of_sound scripts places places log longer e at sound due wrote room refl (subst (λ (es : List Entry). PlacesFit scripts places es) (sym wrote.entries_are) kept) sound.ran
 
 -- where nothing was written
 pub sound_same : (scripts : List (List Command)) (places : List Place) (log same : Log) → Sound scripts places log → IsSameLog log same → Sound scripts places same
@@ -235,7 +272,7 @@ sound_same scripts places log same sound is =
     record {
       kept = subst (λ (es : List Entry). PlacesFit scripts places es) (sym is.1) sound.kept;
       ran = subst (λ (s : State). AllRan places s same.journal.entries) (sym (ap (λ o. o.state) is.0)) (subst (λ (es : List Entry). AllRan places log.origin.state es) (sym is.1) sound.ran);
-      opened = (sound.opened.0, ap (λ o. o.state) is.0 ∙ sound.opened.1);
+      of_scene = of_same scripts log same sound.of_scene is;
       many = sound.many;
       actors = ap (λ (s : State). length (statuses s)) state ∙ sound.actors;
       few = sound.few;

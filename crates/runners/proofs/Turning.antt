@@ -1,6 +1,5 @@
 -- What a turn makes of a kernel with its actors' scripts.
-use Rattle.std.proofs.Common.{◌≡◌, ℕ, zero, suc, ◌+◌, ◌<◌, ◌≤◌, Bool, true, false, cond, List, [], ◌∷◌, ◌++◌, length, Option, Some, None, Result, Ok, Err, refl, ap, sym, ◌∙◌, subst, arith, get_or, append-nil, inl, inr}
-use Rattle.std.proofs.lemmas.Bool.{cases_lt}
+use Rattle.std.proofs.Common.{◌≡◌, ℕ, zero, suc, ◌<◌, ◌≤◌, Bool, true, false, cond, List, [], ◌∷◌, ◌++◌, length, Option, Some, None, Result, Ok, Err, refl, ap, sym, ◌∙◌, subst, arith, get_or, append-nil, inr}
 use Rattle.std.proofs.lemmas.Bool.Decides.{nat_tests}
 use Rattle.std.specs.Prelude.{slice_get, slice_set, nat_lt, IfOk, OnErr}
 use Rattle.std.specs.Option.{option_map}
@@ -17,11 +16,10 @@ use Rattle.kernel_values.specs.declared.scene.Turn.TheVariants as turn
 use Rattle.kernel_values.specs.declared.reply.Answer.{Answer}
 use Rattle.kernel_values.specs.declared.script.Command.{Command}
 use Rattle.kernel_values.specs.declared.state.State.{State}
-use Rattle.kernel_values.specs.SceneLaw.{SceneValue}
+use Rattle.kernel_values.specs.SceneLaw.{scripts_of}
 use Rattle.kernel_types.specs.Scripts.{next_call}
-use Rattle.kernel_types.specs.Whole.{FollowsScripts, answers_in, calls_in, final_answer}
+use Rattle.kernel_types.specs.Whole.{FollowsScripts, final_answer}
 use Rattle.kernel_types.specs.History.{Legal, state_after}
-use Rattle.kernel_types.specs.Opening.{opening}
 use Rattle.kernel_types.specs.Facts.{status_at}
 use Rattle.kernel_types.specs.Kernel.{step_limit}
 use Rattle.kernel_types.specs.Step.{Stepped, step, statuses}
@@ -31,13 +29,15 @@ use Rattle.script_actor.specs.Actors.{acting}
 use Rattle.runners.specs.declared.place.Place.{Place}
 use Rattle.runners.specs.declared.steps.Taken.{Taken}
 use Rattle.runners.specs.declared.steps.Taken.TheVariants as taken
-use Rattle.run_laws.specs.Answered.{HasAnswers, IsFrom, Open}
-use Rattle.run_laws.proofs.Answering.{first_rises, has_answers, starts_rise}
-use Rattle.runners.specs.Places.{PlaceFits, HasRun, Sound, after_answer, after_final, anew, pending}
-use Rattle.runners.specs.Runs.{ScriptedRun, told_of, state_told, run_told, run_logged, TookTurn}
+use Rattle.run_laws.proofs.Going.{turn_takes}
+use Rattle.run_laws.specs.Progress.{MayTake}
+use Rattle.runners.specs.Places.{AllRan, PlaceFits, IsOfScene, Kept, Sound, after_answer, after_final, anew}
+use Rattle.runners.specs.Runs.{CanTake, ScriptedRun, told_of, state_told, run_told, run_logged, TookTurn}
 use Rattle.runners.specs.Steps.{IsSameLog, MadeBy}
+use Rattle.runners.proofs.Counts.{count_room}
 use Rattle.runners.proofs.Fitting.{IsNotBy, fits_begin, fits_resume, fits_anew}
-use Rattle.runners.proofs.Stepping.{took_event, event_by, begin_means, resume_means, all_ran_set, begin_not_by, resume_not_by, get_set_same, length_set, kept_one, sound_own, sound_same}
+use Rattle.runners.proofs.Meeting.{IsInStep, runs_at, waits_at}
+use Rattle.runners.proofs.Stepping.{IsDue, took_event, event_by, begin_means, resume_means, all_ran_set, begin_not_by, resume_not_by, get_set_same, length_set, kept_one, sound_own, sound_same}
 
 -- what stands in the type
 
@@ -56,6 +56,16 @@ may_step told scripts places log is sound room =
 
 pub room_is : (told : ScriptedRun) (scripts : List (List Command)) (log : Log) → told ≡ told_of scripts log → length told.history < history_limit → length log.journal.entries < history_limit
 room_is told scripts log is room = subst (λ (t : ScriptedRun). length t.history < history_limit) is room
+
+-- what the laws of runs say of it
+
+pub goes_on : (told : ScriptedRun) (scripts : List (List Command)) (places : List Place) (log : Log) (t : Turn) → told ≡ told_of scripts log → Sound scripts places log
+    → MayTake (state_told told) t → CanTake told t
+goes_on told scripts places log t is sound may =
+    let of : IsOfScene scripts log = sound.of_scene in
+    let can : (next : Run) × (run_turn step (scripts_of of.scene) (run_logged log) t ≡ Some next) =
+    turn_takes of.scene of.turns (run_logged log) t of.lawful of.run_is (subst (λ (u : ScriptedRun). MayTake (state_told u) t) is may) in
+    subst (λ (u : ScriptedRun). CanTake u t) (sym is) (can.0, subst (λ (cs : List (List Command)). run_turn step cs (run_logged log) t ≡ Some can.0) (sym of.scripts_are) can.1)
 
 -- turns
 
@@ -120,23 +130,23 @@ same_start_final : (place : Place) (given : Option Answer) → (after_final plac
 same_start_final place None = refl
 same_start_final place (Some given) = refl
 
-same_start : (place : Place) (given : Answer) → (after_answer place given).actor.start ≡ place.actor.start
+pub same_start : (place : Place) (given : Answer) → (after_answer place given).actor.start ≡ place.actor.start
 same_start place given = same_start_final place (final_answer given)
 
 -- the step of an actor, whatever came of it
 
-pub sound_step : (result : Result Taken NoMemory) (scripts : List (List Command)) (places : List Place) (log after : Log) (e : Event) (number : ℕ) (place moved : Place) → Sound scripts places log
+pub sound_step : (result : Result Taken NoMemory) (scripts : List (List Command)) (places : List Place) (log after : Log) (e : Event) (number : ℕ) (place moved : Place) → Sound scripts places log → IsDue scripts log e
     → length log.journal.entries < history_limit → slice_get places number ≡ Some place
     → ((script : List Command) (entry : Entry) → slice_get scripts number ≡ Some script → entry.event ≡ e → PlaceFits number script (log.journal.entries ++ entry ∷ []) (after_answer place entry.answer))
     → ((other : ℕ) → (number ≡ other → ⊥) → IsNotBy other e)
     → IfOk result (λ came. MadeBy e log after place moved came) → OnErr result (IsSameLog log after) → OnErr result (moved ≡ place)
     → Sound scripts (slice_set places number moved) after
-sound_step (Ok taken.Stepped) scripts places log after e number place moved sound room there own apart made same stays =
-    sound_own scripts places log after e made.0 number place moved sound made.1 room there (ap (λ (p : Place). p.actor.start) made.2 ∙ same_start place made.1.entry.answer)
+sound_step (Ok taken.Stepped) scripts places log after e number place moved sound due room there own apart made same stays =
+    sound_own scripts places log after e made.0 number place moved sound due made.1 room there (ap (λ (p : Place). p.actor.start) made.2 ∙ same_start place made.1.entry.answer)
     (λ script script_is. subst (λ (p : Place). PlaceFits number script (log.journal.entries ++ made.1.entry ∷ []) p) (sym made.2) (own script made.1.entry script_is (event_by log after e made.0 made.1))) apart
-sound_step (Ok taken.Unlawful) scripts places log after e number place moved sound room there own apart made same stays =
+sound_step (Ok taken.Unlawful) scripts places log after e number place moved sound due room there own apart made same stays =
     sound_stays scripts places log after number place moved sound made.1 there made.2
-sound_step (Err refused) scripts places log after e number place moved sound room there own apart made same stays =
+sound_step (Err refused) scripts places log after e number place moved sound due room there own apart made same stays =
     sound_stays scripts places log after number place moved sound same there stays
 
 pub taken_step : (result : Result Taken NoMemory) (t : Turn) (told : ScriptedRun) (scripts : List (List Command)) (log after : Log) (e : Event) (place moved : Place) → told ≡ told_of scripts log
@@ -170,7 +180,7 @@ sound_anew scripts places log number start script place fresh sound script_is th
       fits_anew number start script log.journal.entries kept.0 kept.2 (subst (λ (p : Place). p.actor.start < start) (sym one) later)))));
   ran = all_ran_set places log.origin.state log.journal.entries number place fresh sound.ran there
       (inr (log.journal.entries, [], sym (append-nil log.journal.entries), runs ∙ ap (λ (p : Place). Some (status.Running p.actor.start)) (sym is)));
-  opened = sound.opened;
+  of_scene = sound.of_scene;
   many = length_set places number fresh ∙ sound.many;
   actors = sound.actors;
   few = sound.few;
@@ -238,85 +248,50 @@ has_script scripts places log number what sound status_is =
     let below : number < length scripts = omega (arith, slice_get_within (statuses (state_of log)) number what status_is, sound.actors) in
     (get_or scripts number [], slice_get-get_or scripts number [] below)
 
+-- the count of an actor
+
+pub status_here : (told : ScriptedRun) (scripts : List (List Command)) (log : Log) (number : ℕ) (what : ActorStatus) → told ≡ told_of scripts log
+    → status_at (state_told told) number ≡ Some what → status_at (state_of log) number ≡ Some what
+status_here told scripts log number what is status_is = subst (λ (t : ScriptedRun). status_at (state_told t) number ≡ Some what) is status_is
+
+pub within : (scripts : List (List Command)) (places : List Place) (counts : List ℕ) (log : Log) (number : ℕ) (what : ActorStatus) → Kept scripts places counts log
+    → status_at (state_of log) number ≡ Some what → number < length counts
+within scripts places counts log number what kept status_is =
+    omega (arith, slice_get_within (statuses (state_of log)) number what status_is, kept.sound.actors, kept.counted.many)
+
+pub counts_room : (told : ScriptedRun) (scripts : List (List Command)) (places : List Place) (counts : List ℕ) (log : Log) (number : ℕ) (what : ActorStatus) → told ≡ told_of scripts log
+    → Kept scripts places counts log → status_at (state_told told) number ≡ Some what → length told.history < history_limit → get_or counts number 0 < step_limit
+counts_room told scripts places counts log number what is kept status_is room =
+    let there : number < length scripts =
+    omega (arith, within scripts places counts log number what kept (status_here told scripts log number what is status_is), kept.counted.many) in
+    count_room scripts counts log number kept.counted there (room_is told scripts log is room)
+
 -- What the history says of the place: it is of the start in which the actor is, and waits where the actor waits.
-
-from_opening : (scene : SceneValue) (entries : List Entry) → Legal (opening scene) entries → (number start : ℕ) → HasRun (opening scene) entries number start
-    → IsFrom start (status_at (state_after (opening scene) entries) number)
-from_opening scene entries legal number start has = elim has [
-  | inl first ↦ subst (λ n. IsFrom n (status_at (state_after (opening scene) entries) number)) (sym first) (first_rises scene entries number legal)
-  | inr p ↦ subst (λ es. IsFrom start (status_at (state_after (opening scene) es) number)) (sym p.2)
-      (starts_rise scene p.0 p.1 number start (subst (λ es. Legal (opening scene) es) p.2 legal) p.3)
-]
-
-rises : (scripts : List (List Command)) (places : List Place) (log : Log) (number : ℕ) (place : Place) (what : ActorStatus) → Sound scripts places log
-    → Legal log.origin.state log.journal.entries → slice_get places number ≡ Some place → status_at (state_of log) number ≡ Some what → IsFrom place.actor.start (Some what)
-rises scripts places log number place what sound legal there status_is =
-    let from : IsFrom place.actor.start (status_at (state_of log) number) =
-    subst (λ (s : State). Legal s log.journal.entries → HasRun s log.journal.entries number place.actor.start → IsFrom place.actor.start (status_at (state_after s log.journal.entries) number))
-    (sym sound.opened.1) (λ l has. from_opening sound.opened.0 log.journal.entries l number place.actor.start has) legal (sound.ran number place there) in
-    subst (λ (o : Option ActorStatus). IsFrom place.actor.start o) status_is from
-
-answered_so : (scripts : List (List Command)) (places : List Place) (log : Log) (number : ℕ) (what : ActorStatus) → Sound scripts places log → Legal log.origin.state log.journal.entries
-    → status_at (state_of log) number ≡ Some what → HasAnswers number log.journal.entries (Some what)
-answered_so scripts places log number what sound legal status_is =
-    let has : HasAnswers number log.journal.entries (status_at (state_of log) number) =
-    subst (λ (s : State). Legal s log.journal.entries → HasAnswers number log.journal.entries (status_at (state_after s log.journal.entries) number))
-    (sym sound.opened.1) (λ l. has_answers sound.opened.0 log.journal.entries number l) legal in
-    subst (λ (o : Option ActorStatus). HasAnswers number log.journal.entries o) status_is has
-
-none_pending : (b : Bool) → pending b ≡ 0 → b ≡ false
-none_pending true is = absurd (omega (arith, is))
-none_pending false is = refl
-
-one_pending : (b : Bool) → pending b ≡ 1 → b ≡ true
-one_pending true is = refl
-one_pending false is = absurd (omega (arith, is))
-
-abbrev pub waits_in : ActorStatus → Bool
-waits_in (status.Waiting start) = true
-waits_in other = false
-
-pub record IsInStep (place : Place) (start : ℕ) (what : ActorStatus) : Type 0 where
-  pub start_is : place.actor.start ≡ start
-  pub waits_is : place.waits ≡ waits_in what
 
 pub runs_in_step : (scripts : List (List Command)) (places : List Place) (log : Log) (number start : ℕ) (place : Place) → Sound scripts places log
     → Legal log.origin.state log.journal.entries → slice_get places number ≡ Some place → status_at (state_of log) number ≡ Some (status.Running start) → start ≤ place.actor.start
     → IsInStep place start (status.Running start)
 runs_in_step scripts places log number start place sound legal there runs low =
-    let entries : List Entry = log.journal.entries in
     let script : (c : List Command) × (slice_get scripts number ≡ Some c) = has_script scripts places log number (status.Running start) sound runs in
-    let f : PlaceFits number script.0 entries place = fits_there scripts places log number script.0 place sound script.1 there in
-    let rise : IsFrom place.actor.start (Some (status.Running start)) = rises scripts places log number place (status.Running start) sound legal there runs in
-    let same : place.actor.start ≡ start = omega (arith, rise, low) in
-    let even : Open 0 number start entries = answered_so scripts places log number (status.Running start) sound legal runs in
-    let count : length (calls_in number start entries) ≡ length (answers_in number start entries) + pending place.waits =
-    subst (λ n. length (calls_in number n entries) ≡ length (answers_in number n entries) + pending place.waits) same f.count in
-    record { start_is = same; waits_is = none_pending place.waits (omega (arith, even, count)) }
+    subst (λ (s : State). Legal s log.journal.entries → AllRan places s log.journal.entries → status_at (state_after s log.journal.entries) number ≡ Some (status.Running start)
+    → IsInStep place start (status.Running start)) (sym sound.of_scene.state_is)
+    (λ l ran r. runs_at sound.of_scene.scene scripts places log.journal.entries number script.0 place l sound.kept ran script.1 there start r low) legal sound.ran runs
 
 pub waits_in_step : (scripts : List (List Command)) (places : List Place) (log : Log) (number start : ℕ) (place : Place) → Sound scripts places log
     → Legal log.origin.state log.journal.entries → slice_get places number ≡ Some place → status_at (state_of log) number ≡ Some (status.Waiting start)
     → IsInStep place start (status.Waiting start)
 waits_in_step scripts places log number start place sound legal there waits =
-    let entries : List Entry = log.journal.entries in
     let script : (c : List Command) × (slice_get scripts number ≡ Some c) = has_script scripts places log number (status.Waiting start) sound waits in
-    let f : PlaceFits number script.0 entries place = fits_there scripts places log number script.0 place sound script.1 there in
-    let rise : IsFrom place.actor.start (Some (status.Waiting start)) = rises scripts places log number place (status.Waiting start) sound legal there waits in
-    let odd : Open 1 number start entries = answered_so scripts places log number (status.Waiting start) sound legal waits in
-    let same : place.actor.start ≡ start = elim (cases_lt place.actor.start start) [
-      | inl before ↦ absurd (omega (arith, odd, ap length (f.later start before).0, ap length (f.later start before).1))
-      | inr past ↦ omega (arith, rise, past)
-    ] in
-    let count : length (calls_in number start entries) ≡ length (answers_in number start entries) + pending place.waits =
-    subst (λ n. length (calls_in number n entries) ≡ length (answers_in number n entries) + pending place.waits) same f.count in
-    record { start_is = same; waits_is = one_pending place.waits (omega (arith, odd, count)) }
+    subst (λ (s : State). Legal s log.journal.entries → AllRan places s log.journal.entries → status_at (state_after s log.journal.entries) number ≡ Some (status.Waiting start)
+    → IsInStep place start (status.Waiting start)) (sym sound.of_scene.state_is)
+    (λ l ran w. waits_at sound.of_scene.scene scripts places log.journal.entries number script.0 place l sound.kept ran script.1 there start w) legal sound.ran waits
 
 -- the turn of an actor that runs, and of one that waits
 
 pub record Stands (told : ScriptedRun) (scripts : List (List Command)) (places : List Place) (log : Log) (number start : ℕ) (place : Place) (what : ActorStatus) : Type 0 where
   is : told ≡ told_of scripts log
   pub sound : Sound scripts places log
-  status_is : status_at (state_of log) number ≡ Some what
+  pub status_is : status_at (state_of log) number ≡ Some what
   there : slice_get places number ≡ Some place
   in_step : IsInStep place start what
 
@@ -372,7 +347,8 @@ pub sound_call : (result : Result Taken NoMemory) (told : ScriptedRun) (scripts 
     → next_call place.actor.script place.actor.stand ≡ Some what → IfOk result (λ came. MadeBy (event.Begin (record { 0 = number }) start what) log after place moved came)
     → OnErr result (IsSameLog log after) → OnErr result (moved ≡ place) → Sound scripts (slice_set places number moved) after
 sound_call result told scripts places log after number start place moved what s room next made same stays =
-    sound_step result scripts places log after (event.Begin (record { 0 = number }) start what) number place moved s.sound (room_is told scripts log s.is room) s.there
+    sound_step result scripts places log after (event.Begin (record { 0 = number }) start what) number place moved s.sound
+    (turn.Actor number, calls told scripts places log number start place (Some what) s next) (room_is told scripts log s.is room) s.there
     (call_fits scripts places log number start place what s.sound s.there s.in_step.waits_is s.in_step.start_is next) (begin_not_by number start what) made same stays
 
 pub taken_call : (result : Result Taken NoMemory) (told : ScriptedRun) (scripts : List (List Command)) (places : List Place) (log after : Log) (number start : ℕ) (place moved : Place) (what : Call)
@@ -388,7 +364,8 @@ pub sound_resume : (result : Result Taken NoMemory) (told : ScriptedRun) (script
     → IfOk result (λ came. MadeBy (event.Resume (record { 0 = number }) start) log after place moved came)
     → OnErr result (IsSameLog log after) → OnErr result (moved ≡ place) → Sound scripts (slice_set places number moved) after
 sound_resume result told scripts places log after number start place moved s room made same stays =
-    sound_step result scripts places log after (event.Resume (record { 0 = number }) start) number place moved s.sound (room_is told scripts log s.is room) s.there
+    sound_step result scripts places log after (event.Resume (record { 0 = number }) start) number place moved s.sound
+    (turn.Actor number, resume_means scripts log number start s.status_is) (room_is told scripts log s.is room) s.there
     (resume_fits scripts places log number start place s.sound s.there s.in_step.waits_is s.in_step.start_is) (resume_not_by number start) made same stays
 
 pub taken_resume : (result : Result Taken NoMemory) (told : ScriptedRun) (scripts : List (List Command)) (places : List Place) (log after : Log) (number start : ℕ) (place moved : Place)

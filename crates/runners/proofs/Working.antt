@@ -17,7 +17,8 @@ use Rattle.turnstile.proofs.Begins.{begins_on}
 use Rattle.runners.specs.declared.rounds.Round.{Round}
 use Rattle.runners.specs.declared.rounds.Round.TheVariants as round
 use Rattle.runners.specs.Runs.{ScriptedRun, state_told, IsRun, IsRunToEnd, IsRunToLimit}
-use Rattle.runners.specs.Workers.{AddsOwn, Served, IsOwnAt, GrewByOwn, WentOn, EndsBy, is_step}
+use Rattle.runners.specs.Places.{answers_to}
+use Rattle.runners.specs.Workers.{AddsOwn, AsksBy, Served, IsOwnAt, GrewByOwn, WentOn, EndsBy, is_step}
 
 -- entries of a longer history
 
@@ -85,8 +86,8 @@ ends_by : (actor : ℕ) (r : Round) (w : View) (told next : ScriptedRun) → Saw
 ends_by actor round.Whole w told next saw follows served = record { follows = follows; ended = at_end w told saw ∙ served.1 }
 ends_by actor round.TooLong w told next saw follows served =
     (ap (λ (es : List Entry). length es) saw.seen ∙ served.1, λ (whole : IsWhole w.origin.state w.origin.scripts w.seen). absurd (cc (whole.ended, at_end w told saw, served.2)))
-ends_by actor (round.Stepped answered) w told next saw follows served = tt
-ends_by actor (round.Asks start) w told next saw follows served = tt
+ends_by actor round.Stepped w told next saw follows served = tt
+ends_by actor (round.Asks start answered) w told next saw follows served = tt
 ends_by actor round.Sleeps w told next saw follows served = tt
 ends_by actor round.NoMemory w told next saw follows served = tt
 
@@ -120,28 +121,51 @@ went_more actor v u w tries last told next in_is out_is from begins adds origin 
 -- whether a step was made
 
 pub step_adds_own : (actor : ℕ) (r : Round) (told next : ScriptedRun) → is_step r ≡ true → Served actor told next r → AddsOwn actor told.history next.history
-step_adds_own actor (round.Stepped answered) told next is served = served.0
+step_adds_own actor round.Stepped told next is served = served
 step_adds_own actor round.Whole told next is served = absurd (cc)
 step_adds_own actor round.TooLong told next is served = absurd (cc)
-step_adds_own actor (round.Asks start) told next is served = absurd (cc)
+step_adds_own actor (round.Asks start answered) told next is served = absurd (cc)
 step_adds_own actor round.Sleeps told next is served = absurd (cc)
 step_adds_own actor round.NoMemory told next is served = absurd (cc)
 
 pub no_step_stays : (actor : ℕ) (r : Round) (told next : ScriptedRun) → is_step r ≡ false → Served actor told next r → next.history ≡ told.history
-no_step_stays actor (round.Stepped answered) told next is served = absurd (cc)
+no_step_stays actor round.Stepped told next is served = absurd (cc)
 no_step_stays actor round.Whole told next is served = served.0
 no_step_stays actor round.TooLong told next is served = served.0
-no_step_stays actor (round.Asks start) told next is served = served
+no_step_stays actor (round.Asks start answered) told next is served = served.0
 no_step_stays actor round.Sleeps told next is served = served.0
 no_step_stays actor round.NoMemory told next is served = served
 
 pub step_ends_nothing : (r : Round) (w : View) → is_step r ≡ true → EndsBy w r
-step_ends_nothing (round.Stepped answered) w is = tt
+step_ends_nothing round.Stepped w is = tt
 step_ends_nothing round.Whole w is = absurd (cc)
 step_ends_nothing round.TooLong w is = absurd (cc)
-step_ends_nothing (round.Asks start) w is = tt
+step_ends_nothing (round.Asks start answered) w is = tt
 step_ends_nothing round.Sleeps w is = tt
 step_ends_nothing round.NoMemory w is = tt
+
+pub step_asks_nothing : (actor : ℕ) (r : Round) (w : View) → is_step r ≡ true → AsksBy actor w r
+step_asks_nothing actor round.Stepped w is = tt
+step_asks_nothing actor round.Whole w is = tt
+step_asks_nothing actor round.TooLong w is = tt
+step_asks_nothing actor (round.Asks start answered) w is = absurd (cc)
+step_asks_nothing actor round.Sleeps w is = tt
+step_asks_nothing actor round.NoMemory w is = tt
+
+-- the number that is told is that of what the holder has seen
+
+asks_by : (actor : ℕ) (r : Round) (w : View) (told next : ScriptedRun) → w.seen ≡ told.history → Served actor told next r → AsksBy actor w r
+asks_by actor (round.Asks start answered) w told next seen served = served.2 ∙ ap (λ (es : List Entry). answers_to actor es) (sym seen)
+asks_by actor round.Stepped w told next seen served = tt
+asks_by actor round.Whole w told next seen served = tt
+asks_by actor round.TooLong w told next seen served = tt
+asks_by actor round.Sleeps w told next seen served = tt
+asks_by actor round.NoMemory w told next seen served = tt
+
+pub asks_same : (actor : ℕ) (r : Round) (v u w : View) (tries last : ℕ) (told next : ScriptedRun) → u ≡ entered (waited v tries last) told.history → w ≡ left u
+    → Served actor told next r → AsksBy actor w r
+asks_same actor r v u w tries last told next in_is out_is served =
+    asks_by actor r w told next (ap (λ (x : View). x.seen) out_is ∙ ap (λ (x : View). x.seen) in_is) served
 
 -- one turn after another
 

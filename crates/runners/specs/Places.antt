@@ -1,9 +1,11 @@
 -- Where each actor stands at its script, and how that fits to a history.
-use Rattle.std.specs.Prelude.{◌≡◌, ◌≤◌, ◌<◌, ◌+◌, ◌-◌, ◌++◌, ◌&&◌, ◌⊎◌, ℕ, Bool, true, false, List, [], length, Option, Some, None, slice_get, nat_lt, if◌then◌else◌}
-use Rattle.kernel_values.specs.SceneLaw.{SceneValue}
+use Rattle.std.specs.Prelude.{◌≡◌, ◌≤◌, ◌<◌, ◌+◌, ◌++◌, ◌&&◌, ◌⊎◌, ℕ, Bool, true, false, List, [], length, Option, Some, None, slice_get, slice_set, get_or, nat_lt, if◌then◌else◌}
+use Rattle.std.specs.List.{count_by}
+use Rattle.kernel_values.specs.SceneLaw.{IsLawfulScene, SceneValue, scripts_of}
 use Rattle.kernel_values.specs.declared.entry.ActorStatus.TheVariants as status
 use Rattle.kernel_values.specs.declared.entry.Entry.{Entry}
 use Rattle.kernel_values.specs.declared.reply.Answer.{Answer}
+use Rattle.kernel_values.specs.declared.scene.Turn.{Turn}
 use Rattle.kernel_values.specs.declared.script.Command.{Command}
 use Rattle.kernel_values.specs.declared.state.State.{State}
 use Rattle.kernel_types.specs.Facts.{status_at}
@@ -12,10 +14,11 @@ use Rattle.kernel_types.specs.Opening.{opening}
 use Rattle.kernel_types.specs.Scripts.{script_begin, stand_on, answered}
 use Rattle.kernel_types.specs.Whole.{calls_in, answers_in, final_answer, InScript}
 use Rattle.kernel_types.specs.Step.{statuses}
-use Rattle.kernel_types.specs.Turns.{history_limit}
+use Rattle.kernel_types.specs.Turns.{history_limit, ran, run_by}
 use Rattle.kernel_log.specs.Books.{is_of_actor}
 use Rattle.kernel_log.specs.Logs.{Log, state_of}
 use Rattle.script_actor.specs.Actors.{acting}
+use Rattle.runners.specs.Runs.{run_logged}
 use Rattle.runners.specs.declared.place.Place.{Place}
 
 -- after the step of its call or of the end of its wait: with an answer that gives or refuses the actor goes on, else it waits
@@ -39,12 +42,9 @@ is_final (Some answer) = true
 abbrev pub is_answer_to : ℕ → Entry → Bool
 is_answer_to actor entry = is_final (final_answer entry.answer) && is_of_actor actor entry.event
 
--- whether the last entry has
-abbrev pub last_is_answer_to : ℕ → List Entry → Bool
-last_is_answer_to actor entries = elim (slice_get entries (length entries - 1)) as (λ _. Bool) [
-  | None ↦ false
-  | Some entry ↦ is_answer_to actor entry
-]
+-- how many calls of the actor were answered
+abbrev pub answers_to : ℕ → List Entry → ℕ
+answers_to actor entries = count_by (is_answer_to actor) entries
 
 -- at the beginning of a script, by the first start
 abbrev pub first_place : List Command → Place
@@ -84,14 +84,37 @@ AllRan places state entries = (number : ℕ) (place : Place) → slice_get place
 abbrev pub most_actors : ℕ
 most_actors = 136
 
--- each actor has a place that fits, each script an actor, and the log is of a new kernel, from the opening state of a scene, and no longer
--- than a run
+-- the log is that of a run of a lawful scene with these scripts, by whatever turns
+pub record IsOfScene (scripts : List (List Command)) (log : Log) : Type 0 where
+  pub scene : SceneValue
+  pub lawful : IsLawfulScene scene
+  pub scripts_are : scripts ≡ scripts_of scene
+  pub state_is : log.origin.state ≡ opening scene
+  pub turns : List Turn
+  pub run_is : run_by scene turns ≡ ran (run_logged log)
+
+-- each actor has a place that fits, each script an actor, and the log is of a new kernel, of a run of a scene, and no longer than a run
 pub record Sound (scripts : List (List Command)) (places : List Place) (log : Log) : Type 0 where
   pub kept : PlacesFit scripts places log.journal.entries
   pub ran : AllRan places log.origin.state log.journal.entries
-  pub opened : (scene : SceneValue) × (log.origin.state ≡ opening scene)
+  pub of_scene : IsOfScene scripts log
   pub many : length places ≡ length scripts
   pub actors : length (statuses (state_of log)) ≡ length scripts
   pub few : length scripts ≤ most_actors
   pub fresh : log.origin.made ≡ 0
   pub short : length log.journal.entries ≤ history_limit
+
+-- each actor's count is that of its answered calls
+pub record Counted (scripts : List (List Command)) (counts : List ℕ) (log : Log) : Type 0 where
+  pub many : length counts ≡ length scripts
+  pub each : (number count : ℕ) → slice_get counts number ≡ Some count → count ≡ answers_to number log.journal.entries
+
+-- the counts after a step of the actor, with an answer or without one
+abbrev pub recounted : List ℕ → ℕ → Bool → List ℕ
+recounted counts actor true = slice_set counts actor (get_or counts actor 0 + 1)
+recounted counts actor false = counts
+
+-- what a run that is shared keeps
+pub record Kept (scripts : List (List Command)) (places : List Place) (counts : List ℕ) (log : Log) : Type 0 where
+  pub sound : Sound scripts places log
+  pub counted : Counted scripts counts log

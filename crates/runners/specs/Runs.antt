@@ -15,12 +15,10 @@ use Rattle.kernel_types.specs.Facts.{is_at_end}
 use Rattle.kernel_types.specs.Opening.{opening}
 use Rattle.kernel_types.specs.Whole.{FollowsScripts, IsWhole, IsWholeHistory}
 use Rattle.kernel_types.specs.Step.{step}
-use Rattle.kernel_types.specs.Turns.{Run, ran, refused, next_turn, run_turn, run_from, run_by, replay_of, serial_from, serial_turns, history_limit}
+use Rattle.kernel_types.specs.Turns.{Run, ran, refused, run_turn, run_from, run_by, replay_of, serial_from, serial_turns, history_limit}
 use Rattle.kernel_log.specs.Logs.{Log, state_of}
 use Rattle.runners.specs.declared.serial_order.RunRefused.{RunRefused}
 use Rattle.runners.specs.declared.serial_order.RunRefused.TheVariants as run_refused
-use Rattle.runners.specs.declared.serial_order.SerialEnd.{SerialEnd}
-use Rattle.runners.specs.declared.serial_order.SerialEnd.TheVariants as serial_end
 use Rattle.runners.specs.declared.replays.ReplayRefused.{ReplayRefused}
 use Rattle.runners.specs.declared.replays.ReplayRefused.TheVariants as replay_refused
 use Rattle.runners.specs.declared.steps.Taken.{Taken}
@@ -50,6 +48,10 @@ run_told told = record { state = state_told told; entries = told.history }
 abbrev pub TookTurn : Turn → ScriptedRun → ScriptedRun → Taken → Type 0
 TookTurn turn told next Stepped = run_turn step told.origin.scripts (run_told told) turn ≡ Some (run_told next)
 TookTurn turn told next Unlawful = (run_turn step told.origin.scripts (run_told told) turn ≡ None) × (next.history ≡ told.history)
+
+-- the turn can be taken
+abbrev pub CanTake : ScriptedRun → Turn → Type 0
+CanTake told turn = (next : Run) × (run_turn step told.origin.scripts (run_told told) turn ≡ Some next)
 
 abbrev pub run_logged : Log → Run
 run_logged log = record { state = state_of log; entries = log.journal.entries }
@@ -82,19 +84,8 @@ pub record IsCutShort (scene : SceneValue) (log : Log) : Type 0 where
   pub full : length log.journal.entries ≡ history_limit
   pub unfinished : is_at_end (state_of log) ≡ false
 
--- the serial run comes to a turn that is due and is not lawful; then some client is not honest
-pub record StandsStill (scene : SceneValue) : Type 0 where
-  pub run : Run
-  pub run_is : run_by scene (serial_turns scene) ≡ ran run
-  pub last : Option ℕ
-  pub due : Turn
-  pub due_is : next_turn run.state last ≡ Some due
-  pub unlawful : run_turn step (scripts_of scene) run due ≡ None
-  pub hostile : list_all is_honest scene.clients ≡ false
-
 abbrev pub IsStopped : {K : Type 0} → SceneValue → RunRefused K → Type 0
 IsStopped scene (run_refused.TooLong log) = IsCutShort scene log
-IsStopped scene run_refused.Unlawful = StandsStill scene
 IsStopped scene run_refused.NoMemory = ⊤
 
 -- the turns that the scene lists are lawful one after another, and whole at their end
@@ -111,19 +102,6 @@ pub record RanSerially (told next : ScriptedRun) : Type 0 where
   pub origin_is : next.origin ≡ told.origin
   pub run_is : run_from step told.origin.scripts 0 (run_told told) (serial_from step told.origin.scripts history_limit None (run_told told)) ≡ ran (run_told next)
   pub full : is_at_end (state_told next) ≡ false → length next.history ≡ history_limit
-
--- the run went on by its serial turns to one that is due and is not lawful
-pub record StoodStill (told next : ScriptedRun) : Type 0 where
-  pub origin_is : next.origin ≡ told.origin
-  pub run_is : run_from step told.origin.scripts 0 (run_told told) (serial_from step told.origin.scripts history_limit None (run_told told)) ≡ ran (run_told next)
-  pub last : Option ℕ
-  pub due : Turn
-  pub due_is : next_turn (state_told next) last ≡ Some due
-  pub unlawful : run_turn step next.origin.scripts (run_told next) due ≡ None
-
-abbrev pub EndedSerially : ScriptedRun → ScriptedRun → SerialEnd → Type 0
-EndedSerially told next serial_end.Reached = RanSerially told next
-EndedSerially told next serial_end.Unlawful = StoodStill told next
 
 -- where a scene begins
 abbrev pub origin_of : SceneValue → Origin
@@ -148,5 +126,4 @@ pub record IsRunToLimit (origin : Origin) (log : Log) : Type 0 where
 
 abbrev pub IsUnfinished : {K : Type 0} → Origin → RunRefused K → Type 0
 IsUnfinished origin (run_refused.TooLong log) = IsRunToLimit origin log
-IsUnfinished origin run_refused.Unlawful = ⊥
 IsUnfinished origin run_refused.NoMemory = ⊤

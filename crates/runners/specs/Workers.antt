@@ -7,7 +7,8 @@ use Rattle.kernel_values.specs.declared.entry.Event.TheVariants as event
 use Rattle.kernel_values.specs.declared.scene.Turn.{Turn}
 use Rattle.kernel_values.specs.declared.scene.Turn.TheVariants as turn
 use Rattle.kernel_values.specs.declared.state.State.{State}
-use Rattle.kernel_types.specs.Facts.{is_at_end}
+use Rattle.kernel_values.specs.declared.entry.ActorStatus.TheVariants as status
+use Rattle.kernel_types.specs.Facts.{is_at_end, status_at}
 use Rattle.kernel_types.specs.History.{Legal}
 use Rattle.kernel_types.specs.Step.{device_has_work, idle_lawful}
 use Rattle.kernel_types.specs.Turns.{history_limit, takes_turn}
@@ -24,7 +25,7 @@ use Rattle.runners.specs.declared.workers.Attended.{Attended}
 use Rattle.runners.specs.declared.workers.Attended.TheVariants as attended
 use Rattle.runners.specs.declared.workers.Worked.{Worked}
 use Rattle.runners.specs.declared.workers.Worked.TheVariants as worked
-use Rattle.runners.specs.Places.{is_answer_to}
+use Rattle.runners.specs.Places.{answers_to}
 use Rattle.runners.specs.Runs.{ScriptedRun, state_told}
 
 -- the pass is one of the turnstile's, with its number, and does not hold the value
@@ -52,12 +53,6 @@ IsTurnOf actor (turn.Actor other) = other ≡ actor
 IsTurnOf actor turn.Device = ⊤
 IsTurnOf actor turn.Idle = ⊤
 
--- the turn can be taken in the state
-abbrev pub MayTake : State → Turn → Type 0
-MayTake s (turn.Actor actor) = takes_turn s actor ≡ true
-MayTake s turn.Device = device_has_work s ≡ true
-MayTake s turn.Idle = idle_lawful s ≡ true
-
 -- none of the turns that the actor's worker takes can be taken
 abbrev pub HasNoTurn : ℕ → State → Type 0
 HasNoTurn actor s = (takes_turn s actor ≡ false) × (device_has_work s ≡ false) × (idle_lawful s ≡ false)
@@ -70,14 +65,16 @@ pub record AddsOwn (actor : ℕ) (history longer : List Entry) : Type 0 where
 
 -- what one turn of the actor's worker makes of the run
 abbrev pub Served : ℕ → ScriptedRun → ScriptedRun → Round → Type 0
-Served actor told next (round.Stepped answered) = (adds : AddsOwn actor told.history next.history) × (answered ≡ is_answer_to actor adds.entry)
+Served actor told next round.Stepped = AddsOwn actor told.history next.history
+Served actor told next (round.Asks start answered) =
+    (next.history ≡ told.history) × (status_at (state_told told) actor ≡ Some (status.Running start)) × (answered ≡ answers_to actor told.history)
 Served actor told next round.Whole = (next.history ≡ told.history) × (is_at_end (state_told told) ≡ true)
 Served actor told next round.TooLong = (next.history ≡ told.history) × (length told.history ≡ history_limit) × (is_at_end (state_told told) ≡ false)
 Served actor told next round.Sleeps = (next.history ≡ told.history) × HasNoTurn actor (state_told told)
 Served actor told next other = next.history ≡ told.history
 
 abbrev pub is_step : Round → Bool
-is_step (round.Stepped answered) = true
+is_step round.Stepped = true
 is_step other = false
 
 -- the place is that of an entry of the actor's own
@@ -109,6 +106,11 @@ abbrev pub EndsBy : View → Round → Type 0
 EndsBy v round.Whole = Ends v worked.Whole
 EndsBy v round.TooLong = Ends v worked.TooLong
 EndsBy v other = ⊤
+
+-- the number of the actor's answered calls in what the holder of the pass has seen is told
+abbrev pub AsksBy : ℕ → View → Round → Type 0
+AsksBy actor v (round.Asks start answered) = answered ≡ answers_to actor v.seen
+AsksBy actor v other = ⊤
 
 abbrev pub EndsWhere : View → Attended → Type 0
 EndsWhere v (attended.Ended worked) = Ends v worked

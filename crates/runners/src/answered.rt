@@ -1,41 +1,31 @@
-//! How many calls of an actor were answered.
+//! How many calls of each actor were answered.
 
-ghost use Rattle.std.specs.Prelude.{◌≡◌, count_by};
-ghost use Rattle.kernel_log.specs.Books.{is_of_actor};
-ghost use Rattle.runners.specs.Places.{is_answer_to};
+ghost use Rattle.std.specs.Prelude.{◌≡◌, ◌<◌, IfOk, get_or, length, replicate};
+ghost use Rattle.kernel_types.specs.Kernel.{step_limit};
+ghost use Rattle.runners.specs.Places.{recounted};
 
-use kernel_types::values::{Answer, Entry, Event};
+use kernel_types::values::NoMemory;
+use std::alloc::Global;
 
-fn is_of_actor(event: &Event, actor: u32) -> bool
-    ensures { result ≡ is_of_actor actor event.now }
+/// A count for each of so many actors, of whose calls none was answered yet.
+pub fn none_answered(alloc: Global, actors: usize) -> Result<Vec<u64>, NoMemory>
+    ensures { IfOk result (λ counts. counts.items ≡ replicate actors 0) }
 {
-    match event {
-        Event::Begin { actor: own, .. } => own.0 == actor,
-        Event::Resume { actor: own, .. } => own.0 == actor,
-        Event::Device => false,
-        Event::Idle => false,
+    let mut counts = Vec::new(alloc);
+    for _actor in 0..actors {
+        counts.push(0)?;
     }
+    Ok(counts)
 }
 
-/// Whether the entry has the answer to a call of the actor.
-pub fn is_answer_to(entry: &Entry, actor: u32) -> bool
-    ensures { result ≡ is_answer_to actor entry.now }
+/// Counts one more answer of the actor, where its step gave one.
+#[tactic(auto, unfolding(kernel_types::specs::Kernel::step_limit))]
+pub fn count_answer(counts: &mut Vec<u64>, actor: u32, answers: bool)
+    requires within { actor < length counts.old.items }
+    requires room { get_or counts.old.items actor 0 < step_limit }
+    ensures { counts.new.items ≡ recounted counts.old.items actor answers }
 {
-    match &entry.answer {
-        Answer::Gives(_) | Answer::Refuses(_) => is_of_actor(&entry.event, actor),
-        _ => false,
+    if answers {
+        counts[actor as usize] += 1;
     }
-}
-
-/// The number of entries with an answer to a call of the actor.
-pub fn answered(entries: &[Entry], actor: u32) -> u64
-    ensures { result ≡ count_by (is_answer_to actor) entries.now }
-{
-    let mut answered = 0;
-    for entry in entries {
-        if is_answer_to(entry, actor) {
-            answered += 1;
-        }
-    }
-    answered
 }

@@ -3,7 +3,8 @@
 ghost use Rattle.std.specs.Prelude.{◌≡◌, ◌<◌, length, IfNone, IfSome};
 ghost use Rattle.kernel_types.specs.Step.{statuses};
 ghost use Rattle.runners.specs.Runs.{state_told};
-ghost use Rattle.runners.specs.Workers.{HasNoTurn, IsTurnOf, MayTake, Served, is_step};
+ghost use Rattle.run_laws.specs.Progress.{MayTake};
+ghost use Rattle.runners.specs.Workers.{HasNoTurn, IsTurnOf, Served, is_step};
 
 use crate::serial_order::HISTORY_LIMIT;
 use crate::shared::Shared;
@@ -18,13 +19,13 @@ pub enum Round {
     Whole,
     /// The run is not whole, and has as many entries as a run may have.
     TooLong,
-    /// A step was made: the actor's, the device's, or Idle; and whether an answer to a call of the actor came by it.
-    Stepped { answered: bool },
-    /// The actor is to make a call by this start.
-    Asks { start: u32 },
+    /// A step was made: the actor's, the device's, or Idle.
+    Stepped,
+    /// The actor is to make a call by this start; so many of its calls were answered.
+    Asks { start: u32, answered: u64 },
     /// There is nothing to do.
     Sleeps,
-    /// Memory was wanted, or the turn was not lawful, as `RunRefused::Unlawful` says.
+    /// Memory was wanted.
     NoMemory,
 }
 
@@ -34,7 +35,7 @@ impl Round {
         ensures { result ≡ is_step self }
     {
         match self {
-            Round::Stepped { .. } => true,
+            Round::Stepped => true,
             Round::Whole | Round::TooLong | Round::Asks { .. } | Round::Sleeps | Round::NoMemory =>
                 false,
         }
@@ -65,18 +66,17 @@ fn turn_of<K: IpcKernel + Drop>(shared: &Shared<K>, actor: u32) -> Option<Turn>
 fn take<K: IpcKernel + Drop>(shared: &mut Shared<K>, actor: u32, turn: Turn) -> Round
     requires room { length shared.old.history < HISTORY_LIMIT }
     requires turn { IsTurnOf actor turn }
+    requires lawful { MayTake (state_told shared.old) turn }
     ensures origin { shared.new.origin ≡ shared.old.origin }
     ensures served { Served actor shared.old shared.new result }
 {
+    shared.goes_on();
     let Ok(taken) = shared.turn(turn) else {
         return Round::NoMemory;
     };
     match taken {
-        Taken::Stepped => Round::Stepped {
-            answered: shared.last_answers(actor),
-        },
-        // As in the serial order: a client's call that writes memory or a ring by itself.
-        Taken::Unlawful => Round::NoMemory,
+        Taken::Stepped => Round::Stepped,
+        Taken::Unlawful => unreachable!(),
     }
 }
 
@@ -97,7 +97,10 @@ pub fn serve<K: IpcKernel + Drop>(shared: &mut Shared<K>, actor: u32, asked: Opt
     }
     if let Some(start) = shared.start_running(actor) {
         if asked != Some(start) {
-            return Round::Asks { start };
+            return Round::Asks {
+                start,
+                answered: shared.answered(actor),
+            };
         }
     }
     match turn_of(shared, actor) {

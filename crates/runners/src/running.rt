@@ -77,7 +77,7 @@ fn staffed<K: IpcKernel + Drop>(
         };
         workers.push(Worker {
             pass: own,
-            progress: Progress::new(ActorId(actor), 0),
+            progress: Progress::new(ActorId(actor)),
         })?;
     }
     Ok(workers)

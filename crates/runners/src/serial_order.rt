@@ -7,7 +7,8 @@ ghost use Rattle.kernel_types.specs.Facts.{is_at_end};
 ghost use Rattle.kernel_types.specs.Step.{statuses};
 ghost use Rattle.kernel_types.specs.Turns.{takes_turn, next_turn, last_after, serial_turns};
 ghost use Rattle.run_laws.specs.Order.{first_after, IsBelow};
-ghost use Rattle.runners.specs.Runs.{state_told, EndedSerially, IsWholeRun, IsStopped, Carries, StoppedCarries};
+ghost use Rattle.run_laws.specs.Progress.{MayTake};
+ghost use Rattle.runners.specs.Runs.{state_told, RanSerially, IsWholeRun, IsStopped, Carries, StoppedCarries};
 
 use crate::scripts::is_lawful;
 use crate::shared::Shared;
@@ -26,10 +27,7 @@ pub const HISTORY_LIMIT: u64 = 4_194_304;
 pub enum RunRefused<K: IpcKernel + Drop> {
     /// It is not whole after 4,194,304 entries. The kernel comes back with them.
     TooLong(Logged<K>),
-    /// The turn that was due is not lawful. This comes only where some client writes memory or a ring by a call of its own: no
-    /// kernel has a body for such a call yet. By threads it does not come.
-    Unlawful,
-    /// Memory was wanted. By threads this comes also where a turn that was due is not lawful.
+    /// Memory was wanted.
     NoMemory,
 }
 
@@ -50,6 +48,7 @@ fn first_from<K: IpcKernel + Drop>(shared: &Shared<K>, from: u32, to: u32) -> Op
     requires { to ≤ length (statuses (state_told shared.now)) }
     ensures first { result ≡ find (takes_turn (state_told shared.now)) (range_with_len from (to - from)) }
     ensures within { IfSome result (λ actor. actor < to) }
+    ensures takes { IfSome result (λ actor. takes_turn (state_told shared.now) actor ≡ true) }
 {
     for actor in from..to {
         if shared.takes_turn(actor) {
@@ -74,6 +73,7 @@ fn first_after(last: Option<u32>) -> u32
 fn next_turn<K: IpcKernel + Drop>(shared: &Shared<K>, last: Option<u32>) -> Option<Turn>
     requires { IsBelow (length shared.now.origin.scripts) last }
     ensures turn { result ≡ next_turn (state_told shared.now) last }
+    ensures lawful { IfSome result (MayTake (state_told shared.now)) }
     ensures end { IfNone result (is_at_end (state_told shared.now) ≡ true) }
     ensures last { IfSome result (λ turn. IsBelow (length shared.now.origin.scripts) (last_after last turn)) }
 {
@@ -103,31 +103,23 @@ fn last_after(last: Option<u32>, turn: Turn) -> Option<u32>
     }
 }
 
-/// Where the serial turns ended.
-#[derive(Clone, Copy, PartialEq, Eq, Debug)]
-pub enum SerialEnd {
-    /// The run is whole, or has as many entries as a run may have.
-    Reached,
-    /// The turn that is due is not lawful.
-    Unlawful,
-}
-
 // Takes the serial turns, to the end of the run or to the limit.
-fn run_serially<K: IpcKernel + Drop>(shared: &mut Shared<K>) -> Result<SerialEnd, NoMemory>
+fn run_serially<K: IpcKernel + Drop>(shared: &mut Shared<K>) -> Result<(), NoMemory>
     requires { shared.old.history ≡ [] }
-    ensures { IfOk result (λ end. EndedSerially shared.old shared.new end) }
+    ensures { OnOk result (RanSerially shared.old shared.new) }
 {
     let mut last = None;
     for _made in 0..HISTORY_LIMIT {
         let Some(turn) = next_turn(shared, last) else {
-            return Ok(SerialEnd::Reached);
+            return Ok(());
         };
+        shared.goes_on();
         match shared.turn(turn)? {
             Taken::Stepped => last = last_after(last, turn),
-            Taken::Unlawful => return Ok(SerialEnd::Unlawful),
+            Taken::Unlawful => unreachable!(),
         }
     }
-    Ok(SerialEnd::Reached)
+    Ok(())
 }
 
 /// Runs the scene in the serial order on a new kernel that stands for its opening state: among the
@@ -148,17 +140,10 @@ pub fn serial<K: IpcKernel + Drop>(
     frames_are_carried_in_order();
     is_lawful(scene);
     let mut shared = Shared::new(alloc, kernel, scene)?;
-    let Ok(end) = run_serially(&mut shared) else {
+    let Ok(()) = run_serially(&mut shared) else {
         drop(shared);
         return Err(RunRefused::NoMemory);
     };
-    match end {
-        SerialEnd::Reached => {}
-        SerialEnd::Unlawful => {
-            drop(shared);
-            return Err(RunRefused::Unlawful);
-        }
-    }
     shared.legal();
     if shared.is_over() {
         Ok(shared.into_logged())

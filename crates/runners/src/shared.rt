@@ -1,6 +1,6 @@
 //! A kernel with its journal and each actor's place at its script: all that a run shares.
 
-ghost use Rattle.std.specs.Prelude.{◌≡◌, ◌≤◌, ◌<◌, [], Some, length, slice_get, count_by, IfOk, OnOk, OnErr};
+ghost use Rattle.std.specs.Prelude.{◌≡◌, ◌≤◌, ◌<◌, [], Some, length, slice_get, IfOk, OnOk, OnErr};
 ghost use Rattle.kernel_values.specs.SceneLaw.{scripts_of};
 ghost use Rattle.kernel_types.specs.Opening.{opening};
 ghost use Rattle.kernel_types.specs.History.{Legal};
@@ -9,13 +9,14 @@ ghost use Rattle.kernel_types.specs.Step.{statuses, movable, device_has_work, id
 ghost use Rattle.kernel_types.specs.Whole.{FollowsScripts};
 ghost use Rattle.kernel_types.specs.Turns.{history_limit, takes_turn};
 ghost use Rattle.kernel_log.specs.Logs.{Log};
-ghost use Rattle.runners.specs.Places.{is_answer_to, last_is_answer_to, most_actors};
-ghost use Rattle.runners.specs.Runs.{ScriptedRun, TookTurn, state_told, start_running};
+ghost use Rattle.run_laws.specs.Progress.{MayTake};
+ghost use Rattle.runners.specs.Places.{answers_to, most_actors};
+ghost use Rattle.runners.specs.Runs.{CanTake, ScriptedRun, TookTurn, state_told, start_running};
 
-use crate::answered::{answered, is_answer_to};
+use crate::answered::none_answered;
 use crate::bell::Bell;
 use crate::place::Place;
-use crate::scripts::{places_of, scripts_of};
+use crate::scripts::{is_lawful, places_of, scripts_of};
 use crate::steps::{Taken, step_of, step_once};
 use kernel_log::Logged;
 use kernel_types::IpcKernel;
@@ -25,26 +26,28 @@ use kernel_types::values::{
 use std::alloc::Global;
 use std::marker::Model;
 
-/// A Logged kernel, each actor's script, and where each actor stands at it. Its history is legal, and
-/// each actor's calls in it are its script's, each once, in their order.
+/// A Logged kernel, each actor's script, where each actor stands at it, and how many of its calls were
+/// answered. Its history is that of turns of the scene; so it is legal, and each actor's calls in it are its
+/// script's, each once, in their order.
 #[derive(Drop)]
 pub struct Shared<K: IpcKernel + Drop> {
     logged: Logged<K>,
     scripts: ScriptList,
     places: Vec<Place>,
+    counts: Vec<u64>,
     bell: Bell,
     alloc: Global,
 }
 
 impl<K: IpcKernel + Drop> Model for Shared<K> {
     ghost use Rattle.runners.specs.Runs.{ScriptedRun, told_of};
-    ghost use Rattle.runners.specs.Places.{Sound};
+    ghost use Rattle.runners.specs.Places.{Kept};
 
     ghost Value = { ScriptedRun };
 
     ghost view = { λ s. told_of s.scripts s.logged };
 
-    ghost invariant = { λ s. Sound s.scripts s.places.items s.logged };
+    ghost invariant = { λ s. Kept s.scripts s.places.items s.counts.items s.logged };
 }
 
 impl<K: IpcKernel + Drop> Shared<K> {
@@ -55,6 +58,7 @@ impl<K: IpcKernel + Drop> Shared<K> {
         ensures origin { IfOk result (λ shared. shared.origin ≡ record { state = opening scene.now; scripts = scripts_of scene.now; made = 0 }) }
         ensures history { IfOk result (λ shared. shared.history ≡ []) }
     {
+        is_lawful(scene);
         let Ok(scripts) = scripts_of(alloc, scene) else {
             drop(kernel);
             return Err(NoMemory);
@@ -64,16 +68,24 @@ impl<K: IpcKernel + Drop> Shared<K> {
             drop(scripts);
             return Err(NoMemory);
         };
+        let Ok(counts) = none_answered(alloc, scripts.len()) else {
+            drop(kernel);
+            drop(scripts);
+            drop(places);
+            return Err(NoMemory);
+        };
         let Ok(bell) = Bell::new(alloc) else {
             drop(kernel);
             drop(scripts);
             drop(places);
+            drop(counts);
             return Err(NoMemory);
         };
         Ok(Shared {
             logged: Logged::new(alloc, kernel),
             scripts,
             places,
+            counts,
             bell,
             alloc,
         })
@@ -88,6 +100,7 @@ impl<K: IpcKernel + Drop> Shared<K> {
             logged,
             scripts: _,
             places: _,
+            counts: _,
             bell: _,
             alloc: _,
         } = self;
@@ -103,6 +116,13 @@ impl<K: IpcKernel + Drop> Shared<K> {
         ensures actors { length (statuses (state_told self.now)) ≡ length self.now.origin.scripts }
     {
         self.logged.legal();
+    }
+
+    /// What the laws of runs say of it: each turn that its state allows can be taken.
+    pub fn goes_on(&self)
+        ensures { (due : Turn) → MayTake (state_told self.now) due → CanTake self.now due }
+    {
+        let _ = &self.logged;
     }
 
     /// Whether the run is whole: every actor is Ended or was never started, and the device has no work.
@@ -145,21 +165,12 @@ impl<K: IpcKernel + Drop> Shared<K> {
         }
     }
 
-    /// Whether the last entry has the answer to a call of the actor.
-    pub fn last_answers(&self, actor: u32) -> bool
-        ensures { result ≡ last_is_answer_to actor self.now.history }
-    {
-        match self.logged.journal().entries().last() {
-            Some(entry) => is_answer_to(entry, actor),
-            None => false,
-        }
-    }
-
-    /// How many calls of the actor were answered.
+    /// How many calls of the actor were answered, by all of its starts.
     pub fn answered(&self, actor: u32) -> u64
-        ensures { result ≡ count_by (is_answer_to actor) self.now.history }
+        requires { actor < length self.now.origin.scripts }
+        ensures { result ≡ answers_to actor self.now.history }
     {
-        answered(self.logged.journal().entries(), actor)
+        self.counts[actor as usize]
     }
 
     /// The bell of those who share this.
@@ -232,7 +243,7 @@ impl<K: IpcKernel + Drop> Shared<K> {
             start,
             call,
         };
-        step_of(&mut self.logged, place, event)
+        step_of(&mut self.logged, place, &mut self.counts, actor, event)
     }
 
     fn resume(&mut self, actor: u32, start: u32) -> Result<Taken, NoMemory>
@@ -248,7 +259,7 @@ impl<K: IpcKernel + Drop> Shared<K> {
             actor: ActorId(actor),
             start,
         };
-        step_of(&mut self.logged, place, event)
+        step_of(&mut self.logged, place, &mut self.counts, actor, event)
     }
 
     fn device_turn(&mut self) -> Result<Taken, NoMemory>

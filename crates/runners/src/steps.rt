@@ -1,10 +1,11 @@
 //! One step of a kernel with a journal, of an actor or of none.
 
-ghost use Rattle.std.specs.Prelude.{◌≡◌, ◌<◌, ◌≢◌, IfOk, OnErr};
+ghost use Rattle.std.specs.Prelude.{◌≡◌, ◌<◌, ◌≢◌, IfOk, OnErr, get_or, length};
 ghost use Rattle.kernel_types.specs.Kernel.{step_limit};
 ghost use Rattle.kernel_log.specs.Logs.{made_by};
-ghost use Rattle.runners.specs.Steps.{Made, MadeBy, IsSameLog};
+ghost use Rattle.runners.specs.Steps.{CountedBy, Made, MadeBy, IsSameLog};
 
+use crate::answered::count_answer;
 use crate::place::Place;
 use kernel_log::{Logged, Receipt};
 use kernel_types::values::{Event, NoMemory};
@@ -42,16 +43,22 @@ pub fn step_once<K: IpcKernel + Drop>(
     }
 }
 
-/// Makes the step of an actor's call, or of the end of its wait, and tells the actor the answer.
+/// Makes the step of an actor's call, or of the end of its wait, tells the actor the answer, and counts it.
 pub fn step_of<K: IpcKernel + Drop>(
     logged: &mut Logged<K>,
     place: &mut Place,
+    counts: &mut Vec<u64>,
+    actor: u32,
     event: Event,
 ) -> Result<Taken, NoMemory>
-    requires { made_by logged.old < step_limit }
+    requires room { made_by logged.old < step_limit }
+    requires within { actor < length counts.old.items }
+    requires counts { get_or counts.old.items actor 0 < step_limit }
     ensures made { IfOk result (λ taken. MadeBy event logged.old logged.new place.old place.new taken) }
+    ensures counted { IfOk result (λ taken. CountedBy place.new actor counts.old.items counts.new.items taken) }
     ensures log { OnErr result (IsSameLog logged.old logged.new) }
     ensures place { OnErr result (place.new ≡ place.old) }
+    ensures stays { OnErr result (counts.new.items ≡ counts.old.items) }
 {
     let Some(receipt) = step_once(logged, event)? else {
         return Ok(Taken::Unlawful);
@@ -60,5 +67,6 @@ pub fn step_of<K: IpcKernel + Drop>(
         unreachable!();
     };
     place.take(answer);
+    count_answer(counts, actor, !place.waits);
     Ok(Taken::Stepped)
 }

@@ -2,7 +2,8 @@
 
 ghost use Rattle.std.specs.Prelude.{◌≡◌, IfOk};
 ghost use Rattle.turnstile.specs.Passes.{view};
-ghost use Rattle.runners.specs.Workers.{Rests, IsActor, WentOn, Ends, EndsBy, EndsWhere};
+ghost use Rattle.runners.specs.Places.{answers_to};
+ghost use Rattle.runners.specs.Workers.{Rests, IsActor, WentOn, AsksBy, Ends, EndsBy, EndsWhere};
 
 use crate::bell::Bell;
 use crate::rounds::{Round, serve};
@@ -15,7 +16,7 @@ use turnstile::{Pass, Turnstile};
 /// What is told before an actor makes a call.
 pub trait Hook {
     /// Called by the actor's worker before it begins a call of the actor, with no turn held. `k` is how
-    /// many of the actor's calls were answered before.
+    /// many of the actor's calls were answered before (`announce`).
     fn before(&self, actor: ActorId, k: u64);
 }
 
@@ -42,8 +43,6 @@ pub struct Progress {
     pub actor: ActorId,
     /// The start by which the actor's next call was told to the hook.
     asked: Option<u32>,
-    /// How many calls of the actor were answered.
-    answered: u64,
 }
 
 /// What a worker's turn means for its next one.
@@ -58,22 +57,11 @@ pub enum Attended {
 }
 
 impl Progress {
-    /// Of an actor of whose calls so many were answered.
-    pub fn new(actor: ActorId, answered: u64) -> Progress
+    /// Of an actor of whose calls none was told yet.
+    pub fn new(actor: ActorId) -> Progress
         ensures { result.actor ≡ actor }
     {
-        Progress {
-            actor,
-            asked: None,
-            answered,
-        }
-    }
-
-    fn step(&mut self, answered: bool)
-        ensures { self.new.actor ≡ self.old.actor }
-    {
-        self.asked = None;
-        self.answered = self.answered.saturating_add(answered as u64);
+        Progress { actor, asked: None }
     }
 }
 
@@ -90,6 +78,7 @@ fn round<R: Wait, K: IpcKernel + Drop>(
     ensures pass { Rests turnstile.now pass.new }
     ensures went_on { WentOn actor (view pass.old) (view pass.new) }
     ensures ends { EndsBy (view pass.new) result }
+    ensures asks { AsksBy actor (view pass.new) result }
 {
     let mut shared = turnstile.enter(rt, pass);
     let round = serve(&mut shared, actor, asked);
@@ -103,23 +92,32 @@ fn round<R: Wait, K: IpcKernel + Drop>(
     }
 }
 
-// The bell of those who share the run, and how many calls of the actor were answered.
+// The bell of those who share the run.
 fn enlist<R: Wait, K: IpcKernel + Drop>(
     rt: &R,
     turnstile: &Turnstile<Shared<K>>,
     pass: &mut Pass,
     actor: u32,
-) -> Result<(Bell, u64), NoMemory>
+) -> Result<Bell, NoMemory>
     requires pass { Rests turnstile.now pass.old }
     ensures pass { Rests turnstile.now pass.new }
     ensures went_on { WentOn actor (view pass.old) (view pass.new) }
 {
     let shared = turnstile.enter(rt, pass);
     shared.legal();
-    let answered = shared.answered(actor);
     let bell = shared.bell().again_or_fail();
     turnstile.leave(pass, shared);
-    Ok((bell?, answered))
+    bell
+}
+
+/// Tells the hook that the actor is to make a call. The number is that of the actor's calls that were
+/// answered before, in what the pass has seen: also where an earlier call was told and then not begun,
+/// since its application had ended.
+pub fn announce<H: Hook>(hook: &H, pass: &Pass, actor: ActorId, answered: u64)
+    requires { answered ≡ answers_to actor.0 (view pass.now).seen }
+{
+    let _ = pass;
+    hook.before(actor, answered);
 }
 
 /// Takes one turn of the worker that has come so far: its hook is called before a call of its actor, and
@@ -142,13 +140,13 @@ pub fn attend<R: Wait, K: IpcKernel + Drop, H: Hook>(
     match round(rt, turnstile, pass, progress.actor.0, progress.asked) {
         Round::Whole => Ok(Attended::Ended(Worked::Whole)),
         Round::TooLong => Ok(Attended::Ended(Worked::TooLong)),
-        Round::Stepped { answered } => {
+        Round::Stepped => {
             bell.ring();
-            progress.step(answered);
+            progress.asked = None;
             Ok(Attended::GoesOn)
         }
-        Round::Asks { start } => {
-            hook.before(progress.actor, progress.answered);
+        Round::Asks { start, answered } => {
+            announce(hook, pass, progress.actor, answered);
             progress.asked = Some(start);
             Ok(Attended::GoesOn)
         }
@@ -162,8 +160,7 @@ pub fn attend<R: Wait, K: IpcKernel + Drop, H: Hook>(
 
 /// Makes the calls of one actor, by all of its starts, until the run has ended. In between it takes the
 /// device's steps and Idle where they are lawful, and sleeps where there is nothing to do. Where memory
-/// was wanted, by it or by another who shares the run, or a turn was not lawful (as
-/// `RunRefused::Unlawful` says), it ends too. That it returns is not promised.
+/// was wanted, by it or by another who shares the run, it ends too. That it returns is not promised.
 pub fn work<R: Wait, K: IpcKernel + Drop, H: Hook>(
     rt: &R,
     turnstile: &Turnstile<Shared<K>>,
@@ -177,8 +174,8 @@ pub fn work<R: Wait, K: IpcKernel + Drop, H: Hook>(
     ensures went_on { WentOn actor.0 (view pass.old) (view pass.new) }
     ensures ends { IfOk result (λ worked. Ends (view pass.new) worked) }
 {
-    let (bell, answered) = enlist(rt, turnstile, pass, actor.0)?;
-    let mut progress = Progress::new(actor, answered);
+    let bell = enlist(rt, turnstile, pass, actor.0)?;
+    let mut progress = Progress::new(actor);
     for _ in rt.forever() {
         let strokes = bell.strokes();
         if bell.has_failed() {

@@ -78,12 +78,13 @@ small_shrinks by c (message_sent from source to end bytes parts may carries) = e
 small_shrinks by c (message_opened id end message there first) = end_shrinks c (with_opened (free_id end.messages)) id
 small_shrinks by c (message_retired id number end message there is_open) = end_shrinks c (without_opened number) id
 small_shrinks by c (end_marked mark id) = end_shrinks c (marked_by mark) id
-small_shrinks by c (end_accepted id server rest port there first) =
+small_shrinks by c (end_accepted app of_app id server rest port there first room) =
     let less : CoreState = port_changed (λ p. record p { pending = rest }) id c in
     let ends : CoreState = end_changed (accepted_end false) server less in
     let here : Shrinking c less = one_shrinks c (on_port (λ p. record p { pending = rest })) (quiet_port (λ p. record p { pending = rest })) id in
     let client : Option ℕ = peer_of (end_of c.objects server) in
-    shrinking_both c ends (accept_client client ends) (shrinking_both c less ends here (end_shrinks less (accepted_end false) server)) (client_shrinks ends client)
+    let both : Shrinking c (accept_client client ends) = shrinking_both c ends (accept_client client ends) (shrinking_both c less ends here (end_shrinks less (accepted_end false) server)) (client_shrinks ends client) in
+    record { next = both.next; less = both.less }
 
 pub swept_shrinks : (c : CoreState) → Shrinking c (sweep c)
 unfolding sweep pruned kept

@@ -1,5 +1,5 @@
 -- What is known of each number that a state names is known of each that it names after a change, where it is known of what is new.
-use Rattle.std.proofs.Common.{◌≡◌, ℕ, ◌+◌, ◌==◌, ◌&&◌, true, false, cond, not, List, [], ◌∷◌, ◌++◌, map, take, Option, Some, None, refl, sym, subst}
+use Rattle.std.proofs.Common.{◌≡◌, ℕ, Bool, ◌+◌, ◌==◌, ◌&&◌, true, false, cond, not, List, [], ◌∷◌, ◌++◌, map, take, Option, Some, None, refl, sym, subst}
 use Rattle.std.specs.Prelude.{slice_get}
 use Rattle.std.specs.List.{AllByRecursion, filter, find, list_all, position_or_len}
 use Rattle.std.specs.Option.{is_some}
@@ -40,10 +40,10 @@ use Rattle.kernel_types.specs.Threads.{activity_changed, new_wait, running_activ
 use Rattle.kernel_types.specs.Waits.{deadline_of}
 use Rattle.kernel_laws.proofs.Within.{all_map_at}
 use Rattle.set_laws.proofs.Lists.{IfThere, all_appended, all_filtered, all_mapped, all_taken, found_there}
-use Rattle.step_laws.specs.SmallChanges.{Carries, IsGiven, Mark, Nameable, SmallChange, after, marked_by}
+use Rattle.step_laws.specs.SmallChanges.{Carries, IsMade, Mark, Nameable, SmallChange, after, after_accept, is_of_app, marked_by}
 use Rattle.step_laws.specs.SmallChanges.Carries.{no_parts, parts_held}
 use Rattle.step_laws.specs.SmallChanges.Mark.{mark_blocked, mark_unblocked, mark_decided, mark_reported, mark_error}
-use Rattle.step_laws.specs.SmallChanges.Nameable.{by_entry, by_number, by_pending}
+use Rattle.step_laws.specs.SmallChanges.Nameable.{by_entry, by_number}
 use Rattle.step_laws.specs.SmallChanges.SmallChange.{cookie_changed, entry_removed, entry_installed, parts_installed, last_changed, memory_made, client_made, pair_made, port_made, member_removed, member_remasked, member_put_last, memory_written, message_sent, message_opened, message_retired, end_marked, end_accepted}
 use Rattle.step_laws.specs.Walks.{Awaits, ThreadChange, after_thread, timeout_of}
 use Rattle.step_laws.specs.Walks.Awaits.{for_any, for_connect, for_object}
@@ -225,13 +225,11 @@ module _ (P : ℕ → Type 0) where
   accepted_known c k (Some client) = end_kept c k (accepted_end true) (λ e all. all) client
 
 -- What a change names was known, or it is given.
-module _ (P : ℕ → Type 0) (c : CoreState) (k : Known P c) (given : (x : ℕ) → IsGiven c x → P x) where
+module _ (P : ℕ → Type 0) (c : CoreState) (k : Known P c) (given : (such : Body → Bool) (x : ℕ) → IsMade such c x → P x) where
   nameable_known : (app object : ℕ) → Nameable app c object → P object
   nameable_known app object (by_entry handle entry held same) =
       subst P same (is_there (λ (e : TableEntry). P e.object) (entry_at (table_of c app) handle) entry (entry_known P c k app handle) held)
-  nameable_known app object (by_number number) = given object number
-  nameable_known app object (by_pending id port rest there first) =
-      (subst (λ (xs : List ℕ). Knows P xs) first (is_there (λ (p : Port). Knows P p.pending) (port_of c.objects id) port (port_known P c k id) there)).0
+  nameable_known app object (by_number number) = given is_of_app object number
 
   parts_known : (app : ℕ) (handles : List ℕ) → list_all (is_in_table (table_of c app)) handles ≡ true → Knows P (part_objects (table_of c app) handles)
   parts_known app [] held = tt
@@ -287,18 +285,19 @@ module _ (P : ℕ → Type 0) (c : CoreState) (k : Known P c) (given : (x : ℕ)
   small_known by (message_retired id number end message there is_open) new =
       end_kept P c k (without_opened number) (λ e all. all_filtered (λ (m : Message). Knows P m.parts) (λ m. not (is_opened_as number m)) e.messages all) id
   small_known by (end_marked mark id) new = end_kept P c k (marked_by mark) (mark_known P mark) id
-  small_known by (end_accepted id server rest port there first) new =
+  small_known by (end_accepted app of_app id server rest port there first room) new =
       let all : Knows P port.pending = is_there (λ (p : Port). Knows P p.pending) (port_of c.objects id) port (port_known P c k id) there in
       let fewer : Knows P rest = (subst (λ (xs : List ℕ). Knows P xs) first all).1 in
       let less : CoreState = port_changed (λ p. record p { pending = rest }) id c in
       let one : Known P less = changed_one P c k (on_port (λ p. record p { pending = rest })) (on_port_known P (λ p. record p { pending = rest }) (λ p known. fewer)) id in
       let both : Known P (end_changed (accepted_end false) server less) = end_kept P less one (accepted_end false) (λ e all. all) server in
-      accepted_known P (end_changed (accepted_end false) server less) both (peer_of (end_of c.objects server))
+      let joined : Known P (after_accept id server rest c) = accepted_known P (end_changed (accepted_end false) server less) both (peer_of (end_of c.objects server)) in
+      installs P (after_accept id server rest c) joined app server (subst (λ (xs : List ℕ). Knows P xs) first all).0
 
   awaited_known : (app : ℕ) (asked : Call) (on : WaitOn) → Awaits app asked c on → KnowsNames P (waited_names on)
   awaited_known app asked on (for_object handle entry held same) =
       subst (λ (w : WaitOn). KnowsNames P (waited_names w)) (sym same) (nameable_known app entry.object (by_entry handle entry held refl), tt)
-  awaited_known app asked on (for_connect end handle number same forever) = subst (λ (w : WaitOn). KnowsNames P (waited_names w)) (sym same) (given end number, tt)
+  awaited_known app asked on (for_connect end handle number same forever) = subst (λ (w : WaitOn). KnowsNames P (waited_names w)) (sym same) (given is_of_app end number, tt)
   awaited_known app asked on (for_any same) = subst (λ (w : WaitOn). KnowsNames P (waited_names w)) (sym same) tt
 
   pub call_known : (app thread : ℕ) (asked : Call) (said : Answer) (change : ThreadChange app thread asked said c) → NewCalled P app thread asked said c change

@@ -4,6 +4,7 @@ use Rattle.std.specs.List.{AllByRecursion, filter, position_or_len}
 use Rattle.kernel_values.specs.declared.call.Call.{Call}
 use Rattle.kernel_values.specs.declared.entry.Seqs.{Seqs}
 use Rattle.kernel_values.specs.declared.reply.Answer.{Answer}
+use Rattle.kernel_values.specs.declared.state.Body.{Body}
 use Rattle.kernel_values.specs.declared.state.CoreState.{CoreState}
 use Rattle.kernel_values.specs.declared.state.Object.{Object}
 use Rattle.kernel_values.specs.declared.state.Port.{Port}
@@ -14,6 +15,7 @@ use Rattle.kernel_types.specs.Objects.{end_changed, end_of, on_body, on_end, on_
 use Rattle.kernel_types.specs.Ports.{admitted, new_port, server_of}
 use Rattle.kernel_types.specs.Reach.{is_in}
 use Rattle.kernel_types.specs.Sweep.{cut_end, has_marked_peer, kept, pruned, pruned_port, reached, sweep}
+use Rattle.kernel_types.specs.Tables.{install}
 use Rattle.kernel_types.specs.Threads.{running_activity}
 use Rattle.kernel_laws.proofs.Starts.{same_ended, same_idle, same_started}
 use Rattle.set_laws.proofs.Counting.{among_first, among_later}
@@ -21,7 +23,7 @@ use Rattle.set_laws.proofs.Known.{Known, Knows, KnowsBody, acted, on_end_known, 
 use Rattle.set_laws.proofs.KnownChanges.{NewCalled, NewKnown, bridging_known, call_known, idled_known, running_known, small_known, started_known, unbridged_known}
 use Rattle.set_laws.proofs.Lists.{all_filtered, all_mapped, all_weaker}
 use Rattle.set_laws.proofs.Naming.{Given, Named, raised}
-use Rattle.step_laws.specs.SmallChanges.{IsGiven, SmallChange, after}
+use Rattle.step_laws.specs.SmallChanges.{IsMade, SmallChange, after, after_accept}
 use Rattle.step_laws.specs.SmallChanges.SmallChange.{client_made, end_accepted, memory_made, pair_made, port_made}
 use Rattle.step_laws.specs.Walks.{IsWalk, ThreadChange, after_thread}
 use Rattle.step_laws.specs.Walks.ThreadChange.{app_over, app_started, set_made}
@@ -55,8 +57,8 @@ accepted_next (Some client) c = refl
 -- What is given is below any later number, so what is known of what was named is known of what is.
 
 module _ (c : CoreState) (k : Given c) (m : ℕ) (le : c.next ≤ m) where
-  given_below : (x : ℕ) → IsGiven c x → x < m
-  given_below x given = omega (arith, given.given, le)
+  given_below : (such : Body → Bool) (x : ℕ) → IsMade such c x → x < m
+  given_below such x given = omega (arith, given.given, le)
 
   small_below : (by : Option ℕ) (change : SmallChange by c) → NewKnown (λ x. x < m) by c change → Named m (after by c change)
   small_below by change new = small_known (λ x. x < m) c (raised c.next c k m le) given_below by change new
@@ -72,11 +74,11 @@ small_names by c k (pair_made client path id port way lets) = small_below c k (c
 small_names by c k (port_made path bufs size flags lawful free) =
     let clients : List ℕ = admitted (new_port path bufs size flags) c.objects in
     small_below c k (c.next + 1 + length clients) (omega arith) by (port_made path bufs size flags lawful free) (servers_below (c.next + 1) clients)
-small_names by c k (end_accepted id server rest port there first) =
+small_names by c k (end_accepted app of_app id server rest port there first room) =
     let less : CoreState = port_changed (λ p. record p { pending = rest }) id c in
     let one : CoreState = end_changed (accepted_end false) server less in
-    subst (λ (n : ℕ). Named n (accept_client (peer_of (end_of c.objects server)) one)) (sym (accepted_next (peer_of (end_of c.objects server)) one))
-    (small_below c k c.next (omega arith) by (end_accepted id server rest port there first) tt)
+    subst (λ (n : ℕ). Named n (install app server (after_accept id server rest c))) (sym (accepted_next (peer_of (end_of c.objects server)) one))
+    (small_below c k c.next (omega arith) by (end_accepted app of_app id server rest port there first room) tt)
 small_names by c k change = small_below c k c.next (omega arith) by change tt
 
 -- neither a start nor an end of an application gives a number

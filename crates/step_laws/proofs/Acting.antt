@@ -35,7 +35,7 @@ use Rattle.kernel_types.specs.Events.{chain_limit}
 use Rattle.kernel_values.specs.declared.flags.Events.{Events}
 use Rattle.kernel_values.specs.declared.state.HandleSet.{HandleSet}
 use Rattle.kernel_values.specs.declared.state.Body.TheVariants as body
-use Rattle.step_laws.specs.SmallChanges.{IsGiven, is_to_port}
+use Rattle.step_laws.specs.SmallChanges.{IsMade, is_of_app, is_to_port}
 use Rattle.step_laws.specs.SmallChanges.Nameable.{by_number}
 use Rattle.step_laws.specs.SmallChanges.SmallChange.{entry_installed, client_made, pair_made}
 use Rattle.step_laws.specs.Walks.{MadeBy, MayJoin, Awaits, Row, SmallWalk, ThreadChange, after_thread, is_connecting, moves_of, timeout_of}
@@ -45,7 +45,7 @@ use Rattle.step_laws.specs.Walks.ThreadChange.{app_over, app_started, member_add
 use Rattle.step_laws.proofs.Leaving.{row_leaves}
 use Rattle.step_laws.proofs.Outcomes.{Acts, Comes, Said, may_list}
 use Rattle.step_laws.proofs.Outcomes.Said.{says_no_list}
-use Rattle.step_laws.proofs.There.{client_given, pair_given}
+use Rattle.step_laws.proofs.There.{app_pair_made, client_made_so}
 use Rattle.step_laws.proofs.Calls.{ReportGoes, accept_goes, close_goes, cookie_goes, del_goes, dup_goes, get_goes, memref_goes, mod_goes, more, mread_goes, mwrite_goes, not_false, port_goes, put_goes, read_goes, report_goes, send_goes}
 
 -- Calls that wait, start or end something.
@@ -75,7 +75,7 @@ module _ (app thread : ℕ) (s : CoreState) (who : (b : CoreState) → b.threads
   waits_so : (c : CoreState) → SmallWalk (Some app) s [] c → (on : WaitOn) (asked : Call) → Awaits app asked c on → is_zero_timeout (timeout_of asked) ≡ false → Does asked (waits_on thread on (deadline_of c.clock (timeout_of asked)) c)
   waits_so c k on asked kind some = record { middle = c; walk = k; changes = goes_on _ c (stays c refl) (wait_begun on kind some refl) refl; says = says_no_list refl }
 
-  connected_goes : (made : CoreState) → SmallWalk (Some app) s [] made → (c : CoreState) → IsGiven made c.next → table_of made app ≡ table_of c app → is_full (table_of c app) ≡ false → (path : List ℕ) (flags : ConnectFlags)
+  connected_goes : (made : CoreState) → SmallWalk (Some app) s [] made → (c : CoreState) → IsMade is_of_app made c.next → table_of made app ≡ table_of c app → is_full (table_of c app) ≡ false → (path : List ℕ) (flags : ConnectFlags)
       → Does (call.Connect path flags) (connected c thread app flags made)
   connected_goes made k c given same room path flags =
       let handle : ℕ = free_handle (table_of c app) in
@@ -84,7 +84,7 @@ module _ (app thread : ℕ) (s : CoreState) (who : (b : CoreState) → b.threads
       let held : SmallWalk (Some app) s [] there = more (Some app) s made k (entry_installed app refl c.next (by_number given) more_room) refl in
       does_if (is_asynchronous flags) (gives (reply.Handle handle) there) (waits_on thread (wait_on.Connect c.next handle) None there)
       (λ now. at_once (gives (reply.Handle handle) there) held (says_no_list refl))
-      (λ later. waits_so there held (wait_on.Connect c.next handle) (call.Connect path flags) (for_connect c.next handle (record { given = given.given; there = given.there }) refl refl) refl)
+      (λ later. waits_so there held (wait_on.Connect c.next handle) (call.Connect path flags) (for_connect c.next handle (record { given = given.given; there = given.there; made = given.made }) refl refl) refl)
 
   started_so : (asked : Call) → is_connecting asked ≡ true → (said : Answer) (m c : CoreState) → Row (ThreadChange app thread asked said) (after_thread app thread asked said) m c → (place : ℕ) (o : Option Application) → slice_get c.apps place ≡ o
       → Row (ThreadChange app thread asked said) (after_thread app thread asked said) m (started_unless_running place o c)
@@ -100,14 +100,14 @@ module _ (app thread : ℕ) (s : CoreState) (who : (b : CoreState) → b.threads
   client_goes : (c : CoreState) → SmallWalk (Some app) s [] c → (path : List ℕ) (flags : ConnectFlags) → is_to_port (way_of c path) ≡ false → is_full (table_of c app) ≡ false
       → Does (call.Connect path flags) (connected c thread app flags (waiting_client (connector.App app) path c))
   client_goes c k path flags way room =
-      connected_goes (waiting_client (connector.App app) path c) (more (Some app) s c k (client_made (connector.App app) path way) refl) c (client_given (connector.App app) path c) refl room path flags
+      connected_goes (waiting_client (connector.App app) path c) (more (Some app) s c k (client_made (connector.App app) path way) refl) c (client_made_so is_of_app (connector.App app) path c refl) refl room path flags
 
   way_goes : (way : Way) (c : CoreState) → SmallWalk (Some app) s [] c → (path : List ℕ) → way_of c path ≡ way → (flags : ConnectFlags) → Does (call.Connect path flags) (connect_by way c thread app path flags)
   way_goes (to_port id port) c k path is flags =
       without_if (not (admits port.flags (connector.App app))) errno.AccessDenied c _ k (λ lets.
       without_if (is_full (table_of c app)) errno.NoResources c _ k (λ room.
       connected_goes (pending_pair (connector.App app) id port c)
-      (more (Some app) s c k (pair_made (connector.App app) path id port is (not_false (admits port.flags (connector.App app)) lets)) refl) c (pair_given (connector.App app) id port c) refl room path flags))
+      (more (Some app) s c k (pair_made (connector.App app) path id port is (not_false (admits port.flags (connector.App app)) lets)) refl) c (app_pair_made app id port c) refl room path flags))
   way_goes (to_start place start) c k path is flags =
       without_if (not (admits start (connector.App app))) errno.AccessDenied c _ k (λ lets.
       without_if (is_full (table_of c app)) errno.NoResources c _ k (λ room.

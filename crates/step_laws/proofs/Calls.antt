@@ -34,17 +34,17 @@ use Rattle.kernel_values.specs.declared.entry.Seqs.{Seqs}
 use Rattle.kernel_values.specs.declared.errno.Errno.TheVariants as errno
 use Rattle.kernel_values.specs.declared.state.WaitOn.TheVariants as wait_on
 use Rattle.kernel_values.specs.declared.reply.Reply.TheVariants as reply
-use Rattle.step_laws.specs.SmallChanges.{Carries, MayDeliver, Move, SmallChange, after, after_accept, moves}
+use Rattle.step_laws.specs.SmallChanges.{Carries, MayDeliver, Move, SmallChange, after, after_accept, is_of_app, moves}
 use Rattle.step_laws.specs.SmallChanges.Carries.{parts_held}
 use Rattle.step_laws.specs.SmallChanges.Mark.{mark_blocked, mark_unblocked, mark_decided, mark_reported}
 use Rattle.step_laws.specs.SmallChanges.Move.{was_sent, was_opened, was_retired}
-use Rattle.step_laws.specs.SmallChanges.Nameable.{by_entry, by_number, by_pending}
+use Rattle.step_laws.specs.SmallChanges.Nameable.{by_entry, by_number}
 use Rattle.step_laws.specs.SmallChanges.SmallChange.{cookie_changed, entry_removed, entry_installed, parts_installed, last_changed, memory_made, port_made, member_removed, member_remasked, member_put_last, memory_written, message_sent, message_opened, message_retired, end_marked, end_accepted}
 use Rattle.step_laws.specs.Walks.{SmallWalk, moves_of}
 use Rattle.step_laws.proofs.Outcomes.{Comes, lists}
 use Rattle.step_laws.proofs.Outcomes.Said.{says_memory, says_message, says_no_list}
 use Rattle.step_laws.proofs.Rows.{one_more, one_told}
-use Rattle.step_laws.proofs.There.{new_given, port_given}
+use Rattle.step_laws.proofs.There.{new_made, port_made_so}
 
 pub not_false : (b : Bool) → not b ≡ false → b ≡ true
 not_false true is = refl
@@ -216,7 +216,7 @@ module _ (app : ℕ) (s : CoreState) where
   memref_goes c k size flags =
       unless (Some app) s (not (is_lawful_size size)) errno.InvalidArgs c _ k (λ lawful.
       unless (Some app) s (is_full (table_of c app)) errno.NoResources c _ k (λ room.
-      record { walk = more (Some app) s _ (more (Some app) s c k (memory_made size flags (not_false (is_lawful_size size) lawful)) refl) (entry_installed app refl c.next (by_number (new_given _ c)) room) refl; says = says_no_list refl }))
+      record { walk = more (Some app) s _ (more (Some app) s c k (memory_made size flags (not_false (is_lawful_size size) lawful)) refl) (entry_installed app refl c.next (by_number (new_made is_of_app _ c refl)) room) refl; says = says_no_list refl }))
 
   mread_of : (c : CoreState) → Now (Some app) s c → (id offset len : ℕ) (o : Option MemoryRef) → memory_of c.objects id ≡ o → Goes (Some app) s true (mem_read_of c o offset len)
   mread_of c k id offset len None is = refused (Some app) s errno.InvalidArgs c k
@@ -324,19 +324,17 @@ module _ (app : ℕ) (s : CoreState) where
       unless (Some app) s (not (is_lawful_port path bufs size)) errno.InvalidArgs c _ k (λ lawful.
       unless (Some app) s (is_some (published c.objects path)) errno.AlreadyExists c _ k (λ free.
       unless (Some app) s (is_full (table_of c app)) errno.NoResources c _ k (λ room.
-      record { walk = more (Some app) s _ (more (Some app) s c k (port_made path bufs size flags (not_false (is_lawful_port path bufs size) lawful) free) refl) (entry_installed app refl c.next (by_number (port_given _ c)) room) refl; says = says_no_list refl })))
+      record { walk = more (Some app) s _ (more (Some app) s c k (port_made path bufs size flags (not_false (is_lawful_port path bufs size) lawful) free) refl) (entry_installed app refl c.next (by_number (port_made_so _ c)) room) refl; says = says_no_list refl })))
 
-  -- the entry is put in first, where the port still has the end pending
   accept_pending_goes : (c : CoreState) → Now (Some app) s c → (id : ℕ) (port : Port) → port_of c.objects id ≡ Some port → (pending : List ℕ) → port.pending ≡ pending
       → Goes (Some app) s false (accept_pending c app id pending)
   accept_pending_goes c k id port there [] is = refused (Some app) s errno.NoMsg c k
   accept_pending_goes c k id port there (server ∷ rest) is =
       unless (Some app) s (is_full (table_of c app)) errno.NoResources c _ k (λ room.
       let client : Option ℕ = peer_of (end_of c.objects server) in
-      let held : Now (Some app) s (install app server c) = more (Some app) s c k (entry_installed app refl server (by_pending id port rest there is) room) refl in
-      let joined : Now (Some app) s (after_accept id server rest (install app server c)) = more (Some app) s (install app server c) held (end_accepted id server rest port there is) refl in
-      let ends : CoreState = end_changed (accepted_end false) server (port_changed (λ p. record p { pending = rest }) id (install app server c)) in
-      let P : Option ℕ → Type 0 = λ o. Now (Some app) s (accept_client o ends) → Goes (Some app) s false (accept_server c app id server rest o) in
+      let joined : Now (Some app) s (install app server (after_accept id server rest c)) = more (Some app) s c k (end_accepted app refl id server rest port there is room) refl in
+      let ends : CoreState = end_changed (accepted_end false) server (port_changed (λ p. record p { pending = rest }) id c) in
+      let P : Option ℕ → Type 0 = λ o. Now (Some app) s (install app server (accept_client o ends)) → Goes (Some app) s false (accept_server c app id server rest o) in
       let go : (o : Option ℕ) → P o = λ o. elim o as (λ v. P v) [
         | None ↦ (λ done. record { walk = done; says = says_no_list refl })
         | Some other ↦ (λ done. record { walk = done; says = says_no_list refl })

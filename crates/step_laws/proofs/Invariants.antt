@@ -14,7 +14,7 @@ use Rattle.kernel_types.specs.History.{next_state, state_after, state_or}
 use Rattle.kernel_types.specs.Step.{Stepped, step}
 use Rattle.kernel_types.specs.Sweep.{sweep}
 use Rattle.kernel_types.specs.Threads.{running_activity, with_activity}
-use Rattle.step_laws.specs.SmallChanges.{IsGiven, Move, SmallChange, after, moves}
+use Rattle.step_laws.specs.SmallChanges.{IsMade, Move, SmallChange, after, is_of_bridge, moves}
 use Rattle.step_laws.specs.Walks.{asked_by, CoreChange, EndsSwept, IsWalk, MadeBy, ThreadChange, after_core, after_thread, core_moves, moves_of}
 use Rattle.step_laws.specs.Walks.EndsSwept.{as_before, swept_last}
 use Rattle.step_laws.specs.Walks.CoreChange.{app_served, by_call, by_small, end_bridged, end_unbridged, objects_swept, time_passed, wait_over}
@@ -27,7 +27,7 @@ pub record Invariant : Type 1 where
   pub call : (app thread : ℕ) (asked : Call) (said : Answer) (c : CoreState) → holds c → (change : ThreadChange app thread asked said c) → holds (after_thread app thread asked said c change)
   pub resumed : (thread : ℕ) (c : CoreState) → holds c → holds (with_activity running_activity thread c)
   pub served : (place : ℕ) (c : CoreState) → holds c → holds (started place c)
-  pub bridged : (end : ℕ) (c : CoreState) → holds c → IsGiven c end → holds (bridging end c)
+  pub bridged : (end : ℕ) (c : CoreState) → holds c → IsMade is_of_bridge c end → holds (bridging end c)
   pub unbridged : (end : ℕ) (c : CoreState) → holds c → holds (unbridged end c)
   pub passed : (deadline : Option ℕ) (c : CoreState) → holds c → holds (core_idle deadline c)
   pub swept : (c : CoreState) → holds c → holds (sweep c)
@@ -89,7 +89,7 @@ pub record TracedInvariant (X : Type 0) : Type 1 where
       → holds x (after_thread app thread asked said c change)
   pub resumed : (thread : ℕ) (x : X) (c : CoreState) → holds x c → holds x (with_activity running_activity thread c)
   pub served : (place : ℕ) (x : X) (c : CoreState) → holds x c → holds x (started place c)
-  pub bridged : (end : ℕ) (x : X) (c : CoreState) → holds x c → IsGiven c end → holds x (bridging end c)
+  pub bridged : (end : ℕ) (x : X) (c : CoreState) → holds x c → IsMade is_of_bridge c end → holds x (bridging end c)
   pub unbridged : (end : ℕ) (x : X) (c : CoreState) → holds x c → holds x (unbridged end c)
   pub passed : (deadline : Option ℕ) (x : X) (c : CoreState) → holds x c → holds x (core_idle deadline c)
   pub swept : (x : X) (c : CoreState) → holds x c → holds x (sweep c)

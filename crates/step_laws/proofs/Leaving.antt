@@ -67,8 +67,9 @@ small_leaves by c b k (entry_removed app of_app handle entry held) = tabled_leav
 small_leaves by c b k (entry_installed app of_app object nameable room) = tabled_leaves c b k app _ (λ a. refl)
 small_leaves by c b k (parts_installed app of_app id number count end message there is_open room) = tabled_leaves c b k app _ (λ a. refl)
 small_leaves by c b k (last_changed app of_app entry first) = tabled_leaves c b k app _ (λ a. refl)
-small_leaves by c b k (end_accepted id server rest port there first) =
-    accept_keeps (Untouched c) (λ x objects u. record { bridged = u.bridged; threads = u.threads; clock = u.clock; starts = u.starts }) id server rest b k
+small_leaves by c b k (end_accepted app of_app id server rest port there first room) =
+    tabled_leaves c (after_accept id server rest b)
+    (accept_keeps (Untouched c) (λ x objects u. record { bridged = u.bridged; threads = u.threads; clock = u.clock; starts = u.starts }) id server rest b k) app _ (λ a. refl)
 small_leaves by c b k _ = record { bridged = k.bridged; threads = k.threads; clock = k.clock; starts = k.starts }
 
 pub row_leaves : (by : Option ℕ) (c d : CoreState) → SmallRow by c d → Untouched c d

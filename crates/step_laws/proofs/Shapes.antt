@@ -16,7 +16,7 @@ use Rattle.kernel_types.specs.Reach.{is_in}
 use Rattle.kernel_types.specs.Reports.{with_last}
 use Rattle.kernel_types.specs.Sets.{remasked, without_label}
 use Rattle.kernel_types.specs.Sweep.{cut_end, kept, pruned, pruned_port, reached, sweep}
-use Rattle.step_laws.specs.SmallChanges.{SmallChange, after, marked_by}
+use Rattle.step_laws.specs.SmallChanges.{SmallChange, after, after_accept, marked_by}
 use Rattle.step_laws.specs.SmallChanges.SmallChange.{cookie_changed, entry_removed, entry_installed, parts_installed, last_changed, memory_made, client_made, pair_made, port_made, member_removed, member_remasked, member_put_last, memory_written, message_sent, message_opened, message_retired, end_marked, end_accepted}
 use Rattle.step_laws.specs.Walks.{Row}
 use Rattle.step_laws.specs.Walks.Row.{goes_on, stays}
@@ -77,7 +77,9 @@ shapes by c (message_sent from source to end bytes parts may carries) = only c (
 shapes by c (message_opened id end message there first) = only c (of_one (on_end (with_opened (free_id end.messages))) id)
 shapes by c (message_retired id number end message there is_open) = only c (of_one (on_end (without_opened number)) id)
 shapes by c (end_marked mark id) = only c (of_one (on_end (marked_by mark)) id)
-shapes by c (end_accepted id server rest port there first) = accepted_shapes id server rest c (peer_of (end_of c.objects server))
+shapes by c (end_accepted app of_app id server rest port there first room) =
+    let both : CoreState = after_accept id server rest c in
+    goes_on _ both (accepted_shapes id server rest c (peer_of (end_of c.objects server))) (of_apps _) refl
 
 swept_shapes : (c : CoreState) → Shapes c (sweep c)
 unfolding sweep pruned kept

@@ -38,7 +38,7 @@ use Rattle.kernel_types.specs.Step.{Stepped, beside_core, client_begin, client_n
 use Rattle.kernel_types.specs.Sweep.{sweep}
 use Rattle.kernel_types.specs.Threads.{running_activity, with_activity}
 use Rattle.kernel_types.specs.Waits.{end_of_wait}
-use Rattle.step_laws.specs.SmallChanges.{Move, SmallChange, after, is_to_port, moves}
+use Rattle.step_laws.specs.SmallChanges.{Move, SmallChange, after, is_of_bridge, is_to_port, moves}
 use Rattle.step_laws.specs.SmallChanges.Carries.{no_parts}
 use Rattle.step_laws.specs.SmallChanges.Mark.{mark_error}
 use Rattle.step_laws.specs.SmallChanges.SmallChange.{client_made, end_marked, pair_made}
@@ -53,7 +53,7 @@ use Rattle.step_laws.proofs.Calls.{GoesIf, deliver_goes, end_of_wait_goes, get_m
 use Rattle.step_laws.proofs.Leaving.{row_leaves}
 use Rattle.step_laws.proofs.Outcomes.{Comes}
 use Rattle.step_laws.proofs.Rows.{no_change, one_more}
-use Rattle.step_laws.proofs.There.{client_given, pair_given}
+use Rattle.step_laws.proofs.There.{bridge_pair_made, client_made_so}
 
 -- Rows of one kind within rows of changes of the core.
 
@@ -191,12 +191,12 @@ module _ (c : CoreState) where
       made_unless (not (admits port.flags connector.NormalWorld)) errno.AccessDenied _ (λ lets.
       let made : CoreState = pending_pair connector.NormalWorld id port c in
       let pair : CoreWalk None c [] made = by_bridge_one c c (from_here None c) (pair_made connector.NormalWorld path id port is (not_false (admits port.flags connector.NormalWorld) lets)) refl in
-      swept_so c (bridging c.next made) (further c made pair (end_bridged c.next (pair_given connector.NormalWorld id port c)) refl))
+      swept_so c (bridging c.next made) (further c made pair (end_bridged c.next (bridge_pair_made id port c)) refl))
   way_walks (to_start place start) path is =
       made_unless (not (admits start connector.NormalWorld)) errno.AccessDenied _ (λ lets.
       let made : CoreState = waiting_client connector.NormalWorld path c in
       let client : CoreWalk None c [] made = by_bridge_one c c (from_here None c) (client_made connector.NormalWorld path (ap is_to_port is)) refl in
-      let named : CoreWalk None c [] (bridging c.next made) = further c made client (end_bridged c.next (client_given connector.NormalWorld path c)) refl in
+      let named : CoreWalk None c [] (bridging c.next made) = further c made client (end_bridged c.next (client_made_so is_of_bridge connector.NormalWorld path c refl)) refl in
       swept_so c (started_unless_running place (slice_get c.apps place) (bridging c.next made)) (start_walks (bridging c.next made) named place (slice_get c.apps place) refl))
   way_walks to_nothing path is = tt
 

@@ -1,14 +1,16 @@
 -- The small changes of tables and objects of which every step is made, each with what was tested before it.
-use Rattle.std.specs.Prelude.{◌≡◌, ◌<◌, ◌≤◌, ℕ, Bool, true, false, List, [], ◌∷◌, length, min, take, Option, Some, slice_get}
-use Rattle.std.specs.List.{list_all, find}
+use Rattle.std.specs.Prelude.{◌≡◌, ◌<◌, ◌≤◌, ◌==◌, ◌&&◌, ℕ, Bool, true, false, List, [], ◌∷◌, length, min, take, Option, Some, slice_get}
+use Rattle.std.specs.List.{list_all, list_any, find}
 use Rattle.std.specs.Option.{is_some}
 use Rattle.kernel_values.specs.declared.entry.EndSeq.{EndSeq}
 use Rattle.kernel_values.specs.declared.flags.Events.{Events}
 use Rattle.kernel_values.specs.declared.flags.MemFlags.{MemFlags}
 use Rattle.kernel_values.specs.declared.flags.PortFlags.{PortFlags}
+use Rattle.kernel_values.specs.declared.state.Body.{Body}
 use Rattle.kernel_values.specs.declared.state.Body.TheVariants as body
 use Rattle.kernel_values.specs.declared.state.ChannelEnd.{ChannelEnd}
 use Rattle.kernel_values.specs.declared.state.Connector.{Connector}
+use Rattle.kernel_values.specs.declared.state.Connector.TheVariants as connector
 use Rattle.kernel_values.specs.declared.state.CoreState.{CoreState}
 use Rattle.kernel_values.specs.declared.state.HandleSet.{HandleSet}
 use Rattle.kernel_values.specs.declared.state.Member.{Member}
@@ -21,27 +23,40 @@ use Rattle.kernel_types.specs.Connects.{Way, accept_client, accepted_end, peer_o
 use Rattle.kernel_types.specs.Connects.Way.{to_port, to_start, to_nothing}
 use Rattle.kernel_types.specs.Events.{events_of, is_disconnected, is_filled, is_ready_member}
 use Rattle.kernel_types.specs.Memories.{is_lawful_size, is_range, is_writable, new_memory, written}
-use Rattle.kernel_types.specs.Messages.{all_installed, blocked_end, free_id, has_unsendable_part, is_full_end, is_in_table, is_opened_as, is_unconnected, part_objects, peer_end, unblocked_end, with_message, with_opened, without_opened}
+use Rattle.kernel_types.specs.Messages.{all_installed, blocked_end, free_id, has_unsendable_part, is_full_end, is_in_table, is_normal_world, is_opened_as, is_unconnected, part_objects, peer_end, unblocked_end, with_message, with_opened, without_opened}
 use Rattle.kernel_types.specs.Objects.{added, end_changed, end_of, is_there, memory_changed, memory_of, port_changed, port_of, published, set_changed, set_of}
 use Rattle.kernel_types.specs.Outcome.{end_seq}
 use Rattle.kernel_types.specs.Ports.{admits, is_lawful_port, new_port, publish}
 use Rattle.kernel_types.specs.Reports.{has_events, in_turn, last_of, reported_end, with_last, with_last_reported}
 use Rattle.kernel_types.specs.Sets.{is_label_in, remasked, without_label}
-use Rattle.kernel_types.specs.Tables.{entry_at, has_room, installed, is_full, table_of, with_cookie, with_table, without}
+use Rattle.kernel_types.specs.Tables.{entry_at, has_room, install, installed, is_full, table_of, with_cookie, with_table, without}
 
 -- What was tested.
 
--- an object has a number that was given, and is there
-pub record IsGiven (b : CoreState) (object : ℕ) : Type 0 where
+abbrev pub is_app_connector : Option Connector → Bool
+is_app_connector (Some (connector.App app)) = true
+is_app_connector other = false
+
+-- what an application makes to hold itself: no end, or the client end of a connection
+abbrev pub is_of_app : Body → Bool
+is_of_app (body.End end) = is_app_connector end.client
+is_of_app other = true
+
+-- the client end of a connection of the normal world
+abbrev pub is_of_bridge : Body → Bool
+is_of_bridge (body.End end) = is_normal_world end.client
+is_of_bridge other = false
+
+-- an object of this kind was made: its number was given, and it is there
+pub record IsMade (such : Body → Bool) (b : CoreState) (object : ℕ) : Type 0 where
   pub given : object < b.next
   pub there : is_there b.objects object ≡ true
+  pub made : list_any (λ other. other.id == object && such other.body) b.objects ≡ true
 
--- why an object may come to be named by an entry of the application's table: an entry of it names the object already, it is
--- new, or it is the first of a port's pending server ends
+-- why an object may come to be named by an entry of the application's table: an entry of it names the object already, or the application made it
 pub data Nameable (app : ℕ) (b : CoreState) (object : ℕ) : Type 0 where
   by_entry : (handle : ℕ) (entry : TableEntry) → entry_at (table_of b app) handle ≡ Some entry → entry.object ≡ object → Nameable app b object
-  by_number : IsGiven b object → Nameable app b object
-  by_pending : (id : ℕ) (port : Port) (rest : List ℕ) → port_of b.objects id ≡ Some port → port.pending ≡ object ∷ rest → Nameable app b object
+  by_number : IsMade is_of_app b object → Nameable app b object
 
 -- bytes may go from the end `from` to its peer `to`, which has a free slot
 pub record MayDeliver (b : CoreState) (from : ℕ) (source : ChannelEnd) (to : ℕ) (end : ChannelEnd) (bytes : List ℕ) : Type 0 where
@@ -106,8 +121,9 @@ pub data SmallChange (by : Option ℕ) (b : CoreState) : Type 0 where
   message_opened : (id : ℕ) (end : ChannelEnd) (message : Message) → end_of b.objects id ≡ Some end → find is_filled end.messages ≡ Some message → SmallChange by b
   message_retired : (id number : ℕ) (end : ChannelEnd) (message : Message) → end_of b.objects id ≡ Some end → find (is_opened_as number) end.messages ≡ Some message → SmallChange by b
   end_marked : (mark : Mark) (id : ℕ) → SmallChange by b
-  -- the first pending server end of a port is accepted: both ends are connected
-  end_accepted : (id server : ℕ) (rest : List ℕ) (port : Port) → port_of b.objects id ≡ Some port → port.pending ≡ server ∷ rest → SmallChange by b
+  -- the first pending server end of a port is accepted: both ends are connected, and the application holds the server's
+  end_accepted : (app : ℕ) → by ≡ Some app → (id server : ℕ) (rest : List ℕ) (port : Port) → port_of b.objects id ≡ Some port → port.pending ≡ server ∷ rest
+      → is_full (table_of b app) ≡ false → SmallChange by b
 
 -- the state in which the first pending server end of a port is accepted
 abbrev pub after_accept : ℕ → ℕ → List ℕ → CoreState → CoreState
@@ -133,7 +149,7 @@ after by b (message_sent from source to end bytes parts may carries) = end_chang
 after by b (message_opened id end message there first) = end_changed (with_opened (free_id end.messages)) id b
 after by b (message_retired id number end message there is_open) = end_changed (without_opened number) id b
 after by b (end_marked mark id) = end_changed (marked_by mark) id b
-after by b (end_accepted id server rest port there first) = after_accept id server rest b
+after by b (end_accepted app of_app id server rest port there first room) = install app server (after_accept id server rest b)
 
 -- What happens to messages, each told by its end and its number there.
 pub data Move : Type 0 where

@@ -32,7 +32,7 @@ use Rattle.kernel_types.specs.Sweep.{sweep}
 use Rattle.kernel_types.specs.Tables.{entry_at, install, is_full, table_of}
 use Rattle.kernel_types.specs.Threads.{new_wait, running_activity, waiting_activity, with_activity}
 use Rattle.kernel_types.specs.Waits.{deadline_of, is_zero_timeout}
-use Rattle.step_laws.specs.SmallChanges.{IsGiven, Move, SmallChange, after, moves}
+use Rattle.step_laws.specs.SmallChanges.{IsMade, Move, SmallChange, after, is_of_app, is_of_bridge, moves}
 use Rattle.step_laws.specs.SmallChanges.Move.{was_sent, was_opened, was_retired}
 
 -- What a thread makes by its call.
@@ -56,7 +56,7 @@ is_connecting _ = false
 -- what a wait that begins is for
 pub data Awaits (app : ℕ) (asked : Call) (b : CoreState) (on : WaitOn) : Type 0 where
   for_object : (handle : ℕ) (entry : TableEntry) → entry_at (table_of b app) handle ≡ Some entry → on ≡ wait_on.Object entry.object entry.handle entry.cookie → Awaits app asked b on
-  for_connect : (end handle : ℕ) → IsGiven b end → on ≡ wait_on.Connect end handle → timeout_of asked ≡ timeout.Forever → Awaits app asked b on
+  for_connect : (end handle : ℕ) → IsMade is_of_app b end → on ≡ wait_on.Connect end handle → timeout_of asked ≡ timeout.Forever → Awaits app asked b on
   for_any : on ≡ wait_on.Any → Awaits app asked b on
 
 -- an object may become a member of a set under a label
@@ -103,7 +103,7 @@ pub data CoreChange (asked : Option Call) (b : CoreState) : Type 0 where
   wait_over : (thread start : ℕ) (found : Thread) (wait : Wait) → slice_get b.threads thread ≡ Some found → found.activity ≡ activity.Waiting start wait → CoreChange asked b
   -- an application is started for a client of the normal world
   app_served : (place : ℕ) (was : Application) → slice_get b.apps place ≡ Some was → was.running ≡ false → CoreChange asked b
-  end_bridged : (end : ℕ) → IsGiven b end → CoreChange asked b
+  end_bridged : (end : ℕ) → IsMade is_of_bridge b end → CoreChange asked b
   end_unbridged : (end : ℕ) → CoreChange asked b
   time_passed : (deadline : Option ℕ) → CoreChange asked b
   objects_swept : CoreChange asked b

@@ -21,7 +21,7 @@ use Rattle.kernel_types.specs.Device.{DeviceStep, device_step}
 use Rattle.kernel_types.specs.History.{entry_of}
 use Rattle.kernel_types.specs.Objects.{map_at}
 use Rattle.kernel_types.specs.Outcome.{Outcome, no_seqs}
-use Rattle.kernel_types.specs.Step.{Stepped, begin, beside_core, client_begin, client_number, client_resume, device_stepped, step, idle, idle_lawful, in_world, is_thread, next_deadline, world_idle}
+use Rattle.kernel_types.specs.Step.{Stepped, beside_core, client_begin, client_number, client_resume, device_stepped, step, idle, idle_lawful, in_world, is_thread, next_deadline, world_idle}
 use Rattle.step_laws.proofs.Bridged.{DeviceKeeps, DeviceKeepsIf, any_change, device_keeps}
 use Rattle.run_laws.proofs.ClientSteps.{end_same, is_no_thread}
 use Rattle.run_laws.proofs.Longer.{entry_with}

@@ -137,7 +137,7 @@ untold_by : (clock : ℕ) (wait : ClientWait) (got : Option Acted) (w : World) (
 untold_by clock wait (Some found) w acted none is = absurd (cc)
 untold_by clock wait None w acted none is = marked_by wait.cancelled (is_due clock wait.deadline) w acted is
 
-client_told_of : (s : State) (k start : ℕ) (acted : Acted) (b : ClientWoken s (client_number s k) start acted)
+pub client_told_of : (s : State) (k start : ℕ) (acted : Acted) (b : ClientWoken s (client_number s k) start acted)
     → is_client_told s k ≡ is_some (answer_of_wait b.wait.on (drained s.world))
 client_told_of s k start acted b =
     ap (λ (o : Option ClientState). is_state_told s.world o) b.there ∙ ap (λ (a : ClientActivity). is_client_activity_told s.world a) b.waits
@@ -207,3 +207,13 @@ module _ (scene : SceneValue) (before : List Entry) (entry : Entry) (after : Lis
       → (begun : BegunWait k start before) × (is_client_told (state_after (opening scene) before) k ≡ false → is_cancelled entry.answer ≡ list_any cancels begun.since)
   unfolding point
   client_ends_cancelled k start none is = client_ends_at before (state_after (opening scene) before) entry point.marked.clients point.one k start none is
+
+  pub client_resumed_at : (k start : ℕ) → is_thread (state_after (opening scene) before) k ≡ false → entry.event ≡ event.Resume (record { 0 = k }) start
+      → (o : Acted) × (client_resume (state_after (opening scene) before) (client_number (state_after (opening scene) before) k) start ≡ Some o) × (entry.answer ≡ o.answer)
+  unfolding point
+  client_resumed_at k start none is =
+      let s : State = state_after (opening scene) before in
+      let one : StepOf s entry = point.one in
+      let out : (o : Acted) × (client_resume s (client_number s k) start ≡ Some o) × (one.stepped ≡ beside_core s.core o) =
+      client_steps s k start one.stepped none (subst (λ (e : Event). step s e ≡ Some one.stepped) is one.is) in
+      (out.0, out.1, ap (λ (e : Entry). e.answer) one.entry_is ∙ ap (λ (r : Stepped). r.answer) out.2)

@@ -18,7 +18,7 @@ use Rattle.kernel_types.specs.CoreStep.{act, core_begin, core_idle, core_resume,
 use Rattle.kernel_types.specs.Device.{DeviceStep, device_step}
 use Rattle.kernel_types.specs.History.{entry_of}
 use Rattle.kernel_types.specs.Outcome.{Outcome, no_seqs}
-use Rattle.kernel_types.specs.Step.{Stepped, begin, beside_core, client_begin, client_number, client_resume, device_stepped, step, idle, idle_lawful, in_world, is_thread, next_deadline}
+use Rattle.kernel_types.specs.Step.{Stepped, beside_core, client_begin, client_number, client_resume, device_stepped, step, idle, idle_lawful, in_world, is_thread, next_deadline}
 use Rattle.kernel_types.specs.Sweep.{sweep}
 use Rattle.kernel_types.specs.Threads.{running_activity, with_activity}
 use Rattle.step_laws.proofs.Acting.{DoesIf, act_goes}

@@ -9,7 +9,7 @@ use Rattle.kernel_types.specs.Clients.{Acted}
 use Rattle.kernel_types.specs.CoreStep.{core_begin, idle_answer}
 use Rattle.kernel_types.specs.Device.{DeviceStep, device_step}
 use Rattle.kernel_types.specs.Outcome.{Outcome}
-use Rattle.kernel_types.specs.Step.{Stepped, begin, beside_core, client_begin, client_number, device_stepped, step, idle, idle_lawful, in_world, is_thread, next_deadline}
+use Rattle.kernel_types.specs.Step.{Stepped, beside_core, client_begin, client_number, device_stepped, step, idle, idle_lawful, in_world, is_thread, next_deadline}
 use Rattle.wait_laws.specs.Cancelling.{is_cancelled, is_end_of_wait}
 use Rattle.wait_laws.proofs.Calling.{act_other}
 use Rattle.wait_laws.proofs.ClientCalling.{act_calls, calls_other}

@@ -1,5 +1,5 @@
-use Rattle.break_laws.proofs.Histories.{histories_break}
+use Rattle.break_laws.proofs.Histories.{reached_break}
 use Rattle.break_laws.proofs.breaks.breaks_cut_the_bridge_off.Goals as goal
 
 pub returns : goal.returns
-returns c = histories_break
+returns c = reached_break

@@ -4,8 +4,9 @@ use Rattle.runners.specs.declared.steps.Taken.{Taken}
 use Rattle.runners.specs.declared.steps.Taken.TheVariants as taken
 use Rattle.kernel_values.specs.Origin.{Origin}
 use Rattle.run_laws.specs.Order.{IsBelow}
-use Rattle.runners.specs.Runs.{StoodStill, ScriptedRun, TookTurn}
-use Rattle.runners.proofs.Ending.{Left, serial_goes, ran_over, ran_full, history_grows, same_told, stood_still}
+use Rattle.runners.specs.Runs.{TookTurn}
+use Rattle.runners.proofs.Ending.{Left, serial_goes, ran_over, ran_full, history_grows}
+use Rattle.runners.proofs.Serving.{never_unlawful}
 use Rattle.runners.proofs.serial_order.run_serially.Goals as goal
 
 pub returns-in_default : goal.returns-in_default
@@ -38,11 +39,8 @@ unfolding history_limit
 returns g c =
     ran_full c.args.shared.now c.loop-made.shared c.loop-made._made c.loop-made.last c.loop-made.invariant.origin c.loop-made.invariant.left (omega arith) (omega arith) c.loop-made.invariant.count
 
-pub returns-in-Unlawful : goal.returns-in-Unlawful
-unfolding history_limit
-returns-in-Unlawful g c =
+pub unreachable-requires : goal.unreachable-requires
+unreachable-requires g c =
     let took : TookTurn c.in-Some.turn c.loop-made.shared c.turn.new.self taken.Unlawful =
     subst (λ (t : Taken). TookTurn c.in-Some.turn c.loop-made.shared c.turn.new.self t) c.in-Unlawful.is c.in_ok-turn.ensures.taken in
-    let below : c.loop-made._made < history_limit = omega arith in
-    subst (λ (next : ScriptedRun). StoodStill c.args.shared.now next) (same_told c.loop-made.shared c.turn.new.self (sym c.turn.ensures.origin) (sym took.1))
-    (stood_still c.args.shared.now c.loop-made.shared c.loop-made._made c.loop-made.last c.in-Some.turn c.loop-made.invariant.origin below (sym c.in-Some.ensures.turn) took.0 c.loop-made.invariant.left)
+    never_unlawful c.in-Some.turn c.loop-made.shared c.turn.new.self (c.goes_on.ensures c.in-Some.turn c.in-Some.ensures.lawful) took

@@ -4,7 +4,7 @@ use Rattle.kernel_types.specs.Turns.{history_limit}
 use Rattle.turnstile.specs.declared.view.View.{View}
 use Rattle.turnstile.specs.Passes.{view}
 use Rattle.runners.specs.Workers.{AddsOwn, WentOn}
-use Rattle.runners.proofs.Working.{step_adds_own, no_step_stays, step_ends_nothing, went_more, went_same, ends_same}
+use Rattle.runners.proofs.Working.{step_adds_own, asks_same, no_step_stays, step_asks_nothing, step_ends_nothing, went_more, went_same, ends_same}
 use Rattle.runners.proofs.workers.round.Goals as goal
 
 pub leave_with-requires-clause-history : goal.leave_with-requires-clause-history
@@ -46,3 +46,11 @@ returns-else-is_step-clause-ends g c =
     c.enter-shared.ensures.view c.leave.ensures.view (c.requires.pass.0.2.origin_is ∙ sym c.enter-shared.ensures.origin)
     (no_step_stays c.args.actor c.serve-round.result c.enter-shared.result c.serve-round.new.shared (sym c.is_step.ensures ∙ c.if-is_step.false) c.serve-round.ensures.served)
     c.serve-round.ensures.origin went.follows c.serve-round.ensures.served
+
+pub returns-then-is_step-clause-asks : goal.returns-then-is_step-clause-asks
+returns-then-is_step-clause-asks g c = step_asks_nothing c.args.actor c.serve-round.result (view c.leave_with.new.pass) (sym c.is_step.ensures ∙ c.if-is_step.true)
+
+pub returns-else-is_step-clause-asks : goal.returns-else-is_step-clause-asks
+returns-else-is_step-clause-asks g c =
+    asks_same c.args.actor c.serve-round.result (view c.args.pass.now) (view c.enter-shared.new.pass) (view c.leave.new.pass) _ _ c.enter-shared.result c.serve-round.new.shared
+    c.enter-shared.ensures.view c.leave.ensures.view c.serve-round.ensures.served

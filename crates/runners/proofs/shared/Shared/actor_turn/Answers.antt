@@ -9,7 +9,7 @@ use Rattle.runners.proofs.shared.Shared.actor_turn.Goals as goal
 pub returns-then-actor-len-clause-taken : goal.returns-then-actor-len-clause-taken
 returns-then-actor-len-clause-taken g c = (
   nothing_turn (turn.Actor c.args.actor) c.args.self.now c.self.inside.scripts c.self.inside.logged (sym c.self.view_is)
-      (nobody_means c.self.inside.scripts c.self.inside.places.items c.self.inside.logged c.args.actor c.self.invariant (omega (arith, c.self.inside.places.ok.0))),
+      (nobody_means c.self.inside.scripts c.self.inside.places.items c.self.inside.logged c.args.actor c.self.invariant.sound (omega (arith, c.self.inside.places.ok.0))),
   refl,
 )
 

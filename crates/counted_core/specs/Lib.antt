@@ -1,0 +1,4 @@
+pub mod EndChanges
+pub mod Held
+pub mod Sending
+pub mod Sweeping

@@ -1,0 +1,79 @@
+//! Applications, with handle tables that keep keys.
+
+ghost use Rattle.std.specs.Prelude.{◌≡◌, ◌<◌, length, IfOk, OnErr, OnOk, Some};
+ghost use Rattle.std.specs.Option.{option_map};
+ghost use Rattle.handle_table.specs.Places.{slot_entry};
+ghost use Rattle.handle_table.specs.Tables.{IsTableFrom};
+ghost use Rattle.kernel_types.specs.Tables.{entry_at, free_handle, installed, with_cookie, without};
+
+use handle_table::{Full, Slot, Table};
+use kernel_values::Manifest;
+use object_store::ObjKey;
+use std::marker::Model;
+
+/// An application with its table. Contracts see the application of the model.
+#[derive(Drop)]
+pub struct AppState {
+    manifest: Manifest,
+    starts: u32,
+    running: bool,
+    table: Table,
+    last: Option<u32>,
+}
+
+impl Model for AppState {
+    ghost use Rattle.kernel_values.specs.declared.state.Application.{Application};
+
+    ghost Value = { Application };
+
+    ghost view = { λ a. record { manifest = a.manifest; starts = a.starts; running = a.running; table = a.table; last = a.last } };
+}
+
+impl AppState {
+    /// What the number stands for, where it is in use.
+    pub fn get(&self, handle: u32) -> Option<Slot>
+        ensures { option_map (slot_entry handle) result ≡ entry_at self.now.table handle }
+    {
+        self.table.get(handle)
+    }
+
+    /// Takes the number out of use.
+    pub fn take(&mut self, handle: u32) -> Option<Slot>
+        ensures slot { option_map (slot_entry handle) result ≡ entry_at self.old.table handle }
+        ensures rest { self.new ≡ record self.old { table = without self.old.table handle } }
+    {
+        self.table.take(handle)
+    }
+
+    /// Gives the object the least free number.
+    pub fn install(&mut self, key: ObjKey) -> Result<u32, Full>
+        ensures full { OnErr result (length self.old.table ≡ 64) }
+        ensures room { OnOk result (length self.old.table < 64) }
+        ensures number { IfOk result (λ handle. handle ≡ free_handle self.old.table) }
+        ensures entry { OnOk result (self.new ≡ record self.old { table = installed self.old.table key.serial }) }
+        ensures same { OnErr result (self.new ≡ self.old) }
+    {
+        self.table.install(key)
+    }
+
+    /// Keeps another cookie with the number, where it is in use.
+    pub fn set_cookie(&mut self, handle: u32, cookie: u64)
+        ensures { self.new ≡ record self.old { table = with_cookie self.old.table handle cookie } }
+    {
+        self.table.set_cookie(handle, cookie);
+    }
+
+    /// Notes the number that a wait for any reported last.
+    pub fn set_last(&mut self, handle: u32)
+        ensures { self.new ≡ record self.old { last = Some handle } }
+    {
+        self.last = Some(handle);
+    }
+
+    /// What holds of its table: the numbers rise and are below 64. It does nothing.
+    pub fn sound(&self)
+        ensures { IsTableFrom 0 self.now.table }
+    {
+        self.table.sound();
+    }
+}

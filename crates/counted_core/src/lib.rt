@@ -1,0 +1,8 @@
+//! The counted core: objects end where their last name goes, by counts in place of marking.
+#![tactic(auto)]
+
+pub mod apps;
+pub mod counts;
+pub mod ends;
+pub mod pushes;
+pub mod sweep;
