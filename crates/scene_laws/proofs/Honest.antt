@@ -14,7 +14,7 @@ use Rattle.script_lines.specs.Registers.{hand, as_one}
 use Rattle.scene_laws.proofs.Results.{after, after_that}
 use Rattle.scene_laws.specs.DriverWords.{is_driver_word}
 
-abbrev Spells : ClientWord → Registers × Call → Type 0
+abbrev pub Spells : ClientWord → Registers × Call → Type 0
 Spells word spelled = is_honest_call spelled.1 ≡ is_driver_word word
 
 connects : (r : Registers) (words : List (List ℕ)) → IfOk (nconnect_line r words) (Spells word.Connect)
@@ -65,7 +65,7 @@ spells r word.Close words = closes r words
 spells r word.Poke words = pokes r words
 spells r word.Kick words = kicks r words
 
-commands : (names : List (List ℕ)) (word : ClientWord) (words : List (List ℕ)) → IfOk (client_command_line names word words) (λ read. is_honest_call read.1.call ≡ is_driver_word word)
+pub commands : (names : List (List ℕ)) (word : ClientWord) (words : List (List ℕ)) → IfOk (client_command_line names word words) (λ read. is_honest_call read.1.call ≡ is_driver_word word)
 unfolding client_command_line
 commands names word words = after_that (Spells word) (λ read. is_honest_call read.1.call ≡ is_driver_word word) (client_call_line (record { names = names; reads = []; sets = [] }) word words) _
     (spells (record { names = names; reads = []; sets = [] }) word words) (λ spelled is. is)

@@ -3,3 +3,5 @@ pub mod Results
 pub mod Quiet
 pub mod Turns
 pub mod Honest
+pub mod FirstWords
+pub mod Tally

@@ -5,6 +5,8 @@
 #[cfg(test)]
 mod command_tests;
 #[cfg(test)]
+mod direct_tests;
+#[cfg(test)]
 mod io_tests;
 #[cfg(test)]
 mod manifest_tests;

@@ -42,7 +42,7 @@ fn headers(rt: HostRuntime) {
 fn kinds_that_meet(rt: HostRuntime) {
     let alloc = rt.alloc();
     assert!(rt; is_fault(alloc, b"scene 1\njump \x80", BadByte, 2));
-    assert!(rt; is_fault(alloc, b"scene 1\nclient c\nnpoke 0 hex:", UnknownWord, 3));
+    assert!(rt; is_fault(alloc, b"scene 1\nclient c\nnpeek 0 hex:", UnknownWord, 3));
     assert!(rt; is_fault(alloc, b"scene 1\nthread x", OutOfPlace, 2));
     assert!(rt; is_fault(alloc, b"scene 1\napp a\nclose 0", OutOfPlace, 3));
     assert!(rt; is_fault(alloc, b"scene 1\napp A {}", BadWords, 2));
