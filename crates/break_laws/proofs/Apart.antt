@@ -61,17 +61,13 @@ use Rattle.fit_laws.proofs.Steps.{change_fits, histories_fit, same_fits}
 use Rattle.break_laws.specs.Breaks.{is_pending}
 use Rattle.break_laws.specs.Held.{HeldAre, IsOpen, KeepsApart, held_in}
 use Rattle.break_laws.proofs.HeldChanges.{call_held, idled_held, resumed_held, small_held, started_held}
-use Rattle.break_laws.proofs.Keeping.{all_of, held_of}
+use Rattle.break_laws.proofs.Keeping.{all_of, held_of, never_true}
 use Rattle.break_laws.proofs.Namers.{both_of, in_filtered, named}
 use Rattle.break_laws.proofs.Namers.Namer.{by_bridge}
 use Rattle.break_laws.proofs.Staying.{Kept, Stays, set_stays, stays_one, stays_same, stays_twice}
 use Rattle.break_laws.proofs.Staying.Came.{is_new, was_there}
 use Rattle.break_laws.proofs.StayingChanges.{bridged_same, set_new, small_stays, stays_added, sweep_stays}
 use Rattle.break_laws.proofs.Surviving.{pends_at}
-
-never_true : (b : Bool) → (b ≡ true → ⊥) → b ≡ false
-never_true true never = absurd (never refl)
-never_true false never = refl
 
 -- what may be held: its number was given, it is no end of the bridge, and no port lists it
 record IsFree (c : CoreState) (n : ℕ) : Type 0 where
@@ -380,7 +376,7 @@ call_next app thread asked said c (app_over ends) = omega (arith, (same_ended ap
 call_stays : (app thread : ℕ) (asked : Call) (said : Answer) (c : CoreState) (change : ThreadChange app thread asked said c) → Stays c.next c (after_thread app thread asked said c change)
 call_stays app thread asked said c (set_made is by room) =
     let one : Body = body.Set (record { members = [] }) in
-    stays_twice c.next c (added one c) _ (stays_added c.next c one (set_new c.next c.next c.next (record { members = [] }) (omega arith))) (stays_same c.next (added one c) _ refl)
+    stays_twice c.next c (added one c) _ (stays_added c.next c one (set_new c.next c.next (record { members = [] }) (omega arith))) (stays_same c.next (added one c) _ refl)
 call_stays app thread asked said c (member_added held handle mask cookie id set entry is here may) =
     let f : HandleSet → HandleSet = with_member (new_member handle entry.object mask cookie) in
     stays_one c.next c (on_set f) (set_stays c.next f) id

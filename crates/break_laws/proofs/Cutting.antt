@@ -95,7 +95,7 @@ port_lists objects n server port there lists = lists_in objects n server port (o
 
 -- Peers.
 
-or_false : (b : Bool) → (b || false) ≡ b
+pub or_false : (b : Bool) → (b || false) ≡ b
 or_false true = refl
 or_false false = refl
 

@@ -17,7 +17,7 @@ use Rattle.bridge_laws.proofs.Core.{drop_names}
 use Rattle.bridge_laws.proofs.Counts.{one_if, times, times_apart, times_cons, times_fewer, times_gone}
 use Rattle.break_laws.specs.Breaks.{AreCutOff, bereft, is_pending, listing_what_is_left}
 use Rattle.break_laws.proofs.Breaking.{Dropping, Stands, drops}
-use Rattle.break_laws.proofs.Cutting.{end_there, port_lists}
+use Rattle.break_laws.proofs.Cutting.{end_there, or_false, port_lists}
 use Rattle.break_laws.proofs.Keeping.{HoldsNoMore, still_apart}
 use Rattle.break_laws.proofs.Looking.{there_is}
 use Rattle.break_laws.proofs.Namers.{in_filtered}
@@ -54,10 +54,6 @@ either false b is P one two = two refl is
 neither : (a b : Bool) → (a || b) ≡ false → (a ≡ false) × (b ≡ false)
 neither true b is = absurd (cc)
 neither false b is = (refl, is)
-
-or_false : (b : Bool) → (b || false) ≡ b
-or_false true = refl
-or_false false = refl
 
 -- `xs` are the ends `ys` and `e`
 module _ (e : ℕ) (xs ys : List ℕ) (split : (n : ℕ) → is_in xs n ≡ ((e == n) || is_in ys n)) (once : is_in ys e ≡ false) where

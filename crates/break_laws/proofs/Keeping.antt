@@ -89,7 +89,7 @@ dropped_fewer b x = record {
 
 -- What is kept.
 
-never_true : (b : Bool) → (b ≡ true → ⊥) → b ≡ false
+pub never_true : (b : Bool) → (b ≡ true → ⊥) → b ≡ false
 never_true true never = absurd (never refl)
 never_true false never = refl
 

@@ -124,24 +124,24 @@ module _ (m : ℕ) where
 
   -- New objects.
 
-  quiet_new : (first id : ℕ) (b : Body) → first ≤ id → ((end : ChannelEnd) → end_in b ≡ Some end → (carried : ℕ) → is_in (message_objects end.messages) carried ≡ true → ⊥)
-      → ((n : ℕ) → n < first → is_in (pending_in b) n ≡ true → ⊥) → IsNew first (record { id = id; body = b })
-  quiet_new first id b above mute lists = record { above = above; mute = mute; lists = lists }
+  quiet_new : (id : ℕ) (b : Body) → m ≤ id → ((end : ChannelEnd) → end_in b ≡ Some end → (carried : ℕ) → is_in (message_objects end.messages) carried ≡ true → ⊥)
+      → ((n : ℕ) → n < m → is_in (pending_in b) n ≡ true → ⊥) → IsNew m (record { id = id; body = b })
+  quiet_new id b above mute lists = record { above = above; mute = mute; lists = lists }
 
-  new_end_quiet : (first id : ℕ) (peer : Option ℕ) (path : Option (List ℕ)) (client : Option Connector) (slots size : ℕ) (state : EndState) → first ≤ id
-      → IsNew first (record { id = id; body = body.End (new_end peer state path client slots size) })
-  new_end_quiet first id peer path client slots size state above =
-      quiet_new first id (body.End (new_end peer state path client slots size)) above
+  new_end_quiet : (id : ℕ) (peer : Option ℕ) (path : Option (List ℕ)) (client : Option Connector) (slots size : ℕ) (state : EndState) → m ≤ id
+      → IsNew m (record { id = id; body = body.End (new_end peer state path client slots size) })
+  new_end_quiet id peer path client slots size state above =
+      quiet_new id (body.End (new_end peer state path client slots size)) above
       (λ end is carried names. let same : new_end peer state path client slots size ≡ end = cc in
       let none : is_in (message_objects end.messages) carried ≡ false = ap (λ (v : ChannelEnd). is_in (message_objects v.messages) carried) (sym same) in
       let bad : false ≡ true = sym none ∙ names in absurd (cc))
       (λ n low lists. absurd (cc))
 
-  memory_new : (first id : ℕ) (memory : MemoryRef) → first ≤ id → IsNew first (record { id = id; body = body.Memory memory })
-  memory_new first id memory above = quiet_new first id (body.Memory memory) above (λ end is. absurd (cc)) (λ n low lists. absurd (cc))
+  memory_new : (id : ℕ) (memory : MemoryRef) → m ≤ id → IsNew m (record { id = id; body = body.Memory memory })
+  memory_new id memory above = quiet_new id (body.Memory memory) above (λ end is. absurd (cc)) (λ n low lists. absurd (cc))
 
-  pub set_new : (first id : ℕ) (set : HandleSet) → first ≤ id → IsNew first (record { id = id; body = body.Set set })
-  set_new first id set above = quiet_new first id (body.Set set) above (λ end is. absurd (cc)) (λ n low lists. absurd (cc))
+  pub set_new : (id : ℕ) (set : HandleSet) → m ≤ id → IsNew m (record { id = id; body = body.Set set })
+  set_new id set above = quiet_new id (body.Set set) above (λ end is. absurd (cc)) (λ n low lists. absurd (cc))
 
   pub stays_added : (c : CoreState) (b : Body) → IsNew m (record { id = c.next; body = b }) → Stays m c (added b c)
   stays_added c b fresh = stays_more m c (added b c) ((record { id = c.next; body = b }) ∷ []) refl (fresh, tt)
@@ -161,8 +161,8 @@ module _ (m : ℕ) where
       let f : Port → Port = λ p. record p { pending = p.pending ++ (c.next + 1) ∷ [] } in
       let first : CoreState = added one c in
       let both : CoreState = added other first in
-      let here : Stays m c first = stays_added c one (new_end_quiet m c.next (Some (c.next + 1)) None (Some client) port.bufs port.size end_state.Connecting le) in
-      let there : Stays m first both = stays_added first other (new_end_quiet m (c.next + 1) (Some c.next) None None port.bufs port.size end_state.Connecting (omega (arith, le))) in
+      let here : Stays m c first = stays_added c one (new_end_quiet c.next (Some (c.next + 1)) None (Some client) port.bufs port.size end_state.Connecting le) in
+      let there : Stays m first both = stays_added first other (new_end_quiet (c.next + 1) (Some c.next) None None port.bufs port.size end_state.Connecting (omega (arith, le))) in
       let listed : Stays m both (port_changed f id both) = stays_one m both (on_port f) (port_stays m f (listed_more (c.next + 1) (omega (arith, le)))) id in
       stays_twice m c both (port_changed f id both) (stays_twice m c first both here there) listed
 
@@ -171,7 +171,7 @@ module _ (m : ℕ) where
   servers_new : (port : Port) (first : ℕ) (clients xs : List ℕ) → m ≤ first → AllByRecursion (IsNew m) (map (new_server port first clients) xs)
   servers_new port first clients [] le = tt
   servers_new port first clients (x ∷ xs) le =
-      (new_end_quiet m (server_of first clients x) (Some x) None None port.bufs port.size end_state.Connecting (omega (arith, le)), servers_new port first clients xs le)
+      (new_end_quiet (server_of first clients x) (Some x) None None port.bufs port.size end_state.Connecting (omega (arith, le)), servers_new port first clients xs le)
 
   listed_above : (first : ℕ) (clients xs : List ℕ) (n : ℕ) → is_in (map (server_of first clients) xs) n ≡ true → first ≤ n
   listed_above first clients [] n lists = absurd (cc)
@@ -192,7 +192,7 @@ module _ (m : ℕ) where
       let more : List Object = made ∷ map (new_server port first clients) clients in
       let here : Stays m c old = stays_all m c (decided port first clients) (λ o. refl) (λ o. end_stays m (decided_end port first clients o.id) (decided_so port first clients o.id) o.body) in
       let port_new : IsNew m made =
-      quiet_new m c.next (body.Port (record port { pending = map (server_of first clients) clients })) le (λ end is. absurd (cc))
+      quiet_new c.next (body.Port (record port { pending = map (server_of first clients) clients })) le (λ end is. absurd (cc))
       (λ n low lists. let above : first ≤ n = listed_above first clients clients n lists in absurd (omega (arith, above, low, le))) in
       stays_twice m c old (publish port c) here (stays_more m old (publish port c) more refl (port_new, servers_new port first clients clients (omega (arith, le))))
 
@@ -255,9 +255,9 @@ module _ (m : ℕ) where
   small_stays by c le (entry_installed app of_app object nameable room) = stays_same m c _ refl
   small_stays by c le (parts_installed app of_app id number count end message there is_open room) = stays_same m c _ refl
   small_stays by c le (last_changed app of_app entry first) = stays_same m c _ refl
-  small_stays by c le (memory_made size flags lawful) = stays_added c (body.Memory (new_memory size flags)) (memory_new m c.next (new_memory size flags) le)
+  small_stays by c le (memory_made size flags lawful) = stays_added c (body.Memory (new_memory size flags)) (memory_new c.next (new_memory size flags) le)
   small_stays by c le (client_made client path way) =
-      stays_added c (body.End (new_end None end_state.Waiting (Some path) (Some client) 0 0)) (new_end_quiet m c.next None (Some path) (Some client) 0 0 end_state.Waiting le)
+      stays_added c (body.End (new_end None end_state.Waiting (Some path) (Some client) 0 0)) (new_end_quiet c.next None (Some path) (Some client) 0 0 end_state.Waiting le)
   small_stays by c le (pair_made client path id port way lets) = pair_stays client id port c le
   small_stays by c le (port_made path bufs size flags lawful free) = publish_stays (new_port path bufs size flags) c le
   small_stays by c le (member_removed id label set there known) = stays_one m c (on_set (without_label label)) (set_stays m (without_label label)) id
