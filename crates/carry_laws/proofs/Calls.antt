@@ -20,7 +20,7 @@ use Rattle.kernel_values.specs.declared.world.ConnectionStatus.{ConnectionStatus
 use Rattle.kernel_values.specs.declared.world.ConnectionStatus.TheVariants as connection_status
 use Rattle.kernel_values.specs.declared.world.World.{World}
 use Rattle.kernel_types.specs.Carried.{one_if}
-use Rattle.kernel_values.specs.CallKinds.{is_honest_call, drains}
+use Rattle.kernel_values.specs.Calls.{is_honest_call, drains}
 use Rattle.kernel_types.specs.Clients.{Acted, ns_gives, ns_refuses, ns_waits, with_client, send_by, send_frame, sent_in, next_address, asks, ns_connect_call, own_connection, send_limit, counts, send_established, send_by_status, send_on, ns_send_call, connect_answer_of, connect_answer, is_closed, receive_from, receive_answer, answer_of_wait, receive_or_wait, receive_on, ns_recv_call, shuts, close_by_status, close_on, ns_close_call, ns_act, end_by_answer, end_of_ns_wait, inbox_changed, is_asked, client_ended}
 use Rattle.kernel_types.specs.Drains.{with_driver, drained, connection_of}
 use Rattle.kernel_types.specs.GuestMemory.{buffer_count, buffer_size, with_frame}

@@ -14,8 +14,8 @@ use Rattle.kernel_values.specs.declared.scene.Client.{Client}
 use Rattle.kernel_values.specs.declared.script.Command.{Command}
 use Rattle.kernel_values.specs.declared.script.RegRead.{RegRead}
 use Rattle.kernel_types.specs.Carried.{is_honest}
-use Rattle.kernel_values.specs.CallKinds.{is_honest_call}
-use Rattle.kernel_types.specs.Scripts.{Stand, answered, call_at, call_of, calls_from, calls_of, led_by, next_call, one_if, read_register, script_begin, value_in, with_number}
+use Rattle.kernel_values.specs.Calls.{is_honest_call, with_number}
+use Rattle.kernel_types.specs.Scripts.{Stand, answered, call_at, call_of, calls_from, calls_of, led_by, next_call, one_if, read_register, script_begin, value_in}
 use Rattle.kernel_types.specs.Whole.{FollowsScripts, InScript, answers_in, call_by, calls_in, is_by}
 use Rattle.carry_laws.proofs.Lists.{AllOf}
 

@@ -12,7 +12,7 @@ use Rattle.kernel_values.specs.declared.world.ClientActivity.TheVariants as acti
 use Rattle.kernel_values.specs.declared.world.ClientState.{ClientState}
 use Rattle.kernel_values.specs.declared.world.World.{World}
 use Rattle.kernel_types.specs.Carried.{one_if, client_frame, where_done, given_frame, taken_frame, offered_in, drained_in, given_in, taken_in}
-use Rattle.kernel_values.specs.CallKinds.{is_honest_call, drains}
+use Rattle.kernel_values.specs.Calls.{is_honest_call, drains}
 use Rattle.kernel_types.specs.Clients.{Acted, end_of_ns_wait, ns_act}
 use Rattle.kernel_types.specs.CoreStep.{core_begin, core_resume}
 use Rattle.kernel_types.specs.Device.{DeviceStep, device_step}

@@ -358,26 +358,8 @@ call_acts w clock client (call.NsPoke addr bytes) = poke_acts no_room w addr byt
 call_acts w clock client (call.NsKick queue head) = kick_acts no_room w queue head
 call_acts w clock client call.Finish =
     gives_well no_room w (with_client client_ended client w) (leaves_client w client_ended client) reply.Done (omega arith) (omega arith) (omega arith)
-call_acts w clock client (call.PortCreate path bufs size flags) = tt
-call_acts w clock client (call.Connect path flags) = tt
-call_acts w clock client (call.Accept port) = tt
-call_acts w clock client (call.Send chan bytes parts) = tt
-call_acts w clock client (call.Get chan) = tt
-call_acts w clock client (call.Read chan id offset room parts) = tt
-call_acts w clock client (call.Put chan id) = tt
-call_acts w clock client (call.SetCookie handle cookie) = tt
-call_acts w clock client (call.Close handle) = tt
-call_acts w clock client (call.Dup handle) = tt
-call_acts w clock client call.SetCreate = tt
-call_acts w clock client (call.SetAdd set handle mask cookie) = tt
-call_acts w clock client (call.SetDel set label) = tt
-call_acts w clock client (call.SetMod set label mask cookie) = tt
-call_acts w clock client (call.MemCreate size flags) = tt
-call_acts w clock client (call.MemRead handle offset len) = tt
-call_acts w clock client (call.MemWrite handle offset bytes) = tt
-call_acts w clock client (call.Wait handle timeout) = tt
-call_acts w clock client (call.WaitAny timeout) = tt
-call_acts w clock client (call.Exit code) = tt
+-- the others are calls of threads
+call_acts w clock client other = tt
 
 pub begin_acts : (s : State) (client start : ℕ) (asked : Call) → ActsIf (room_of_call asked) s.world (client_begin s client start asked)
 unfolding client_begin

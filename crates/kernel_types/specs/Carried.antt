@@ -2,8 +2,6 @@
 use Rattle.std.specs.Prelude.{ℕ, Bool, true, false, List, [], ◌∷◌, ◌++◌, Option, Some, None, if◌then◌else◌, IsTrue, IsFalse}
 use Rattle.std.specs.List.{list_all}
 use mathlib.Core.List.{IsPrefix}
-use Rattle.kernel_values.specs.declared.call.Call.{Call}
-use Rattle.kernel_values.specs.declared.call.Call.TheVariants as call
 use Rattle.kernel_values.specs.declared.entry.Entry.{Entry}
 use Rattle.kernel_values.specs.declared.entry.Event.{Event}
 use Rattle.kernel_values.specs.declared.entry.Event.TheVariants as event
@@ -12,7 +10,7 @@ use Rattle.kernel_values.specs.SceneLaw.{SceneValue, IsLawfulScene, scripts_of}
 use Rattle.kernel_types.specs.Whole.{FollowsScripts}
 use Rattle.kernel_values.specs.declared.state.State.{State}
 use Rattle.kernel_types.specs.Clients.{Acted}
-use Rattle.kernel_values.specs.CallKinds.{drains, is_honest_call}
+use Rattle.kernel_values.specs.Calls.{drains, is_honest_call}
 use Rattle.kernel_types.specs.Drains.{drained_frames}
 use Rattle.kernel_types.specs.Device.{DeviceStep, device_step}
 use Rattle.kernel_types.specs.Step.{is_thread, client_number, client_begin, client_resume}

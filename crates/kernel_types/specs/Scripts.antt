@@ -1,6 +1,6 @@
 -- The calls of a script: each command's call with its registers as the answers before it left them, then
 -- `finish`. A register is empty at first, and reads as the number that no handle has.
-use Rattle.std.specs.Prelude.{ℕ, Bool, true, false, zero, suc, List, [], ◌∷◌, ◌+◌, ◌==◌, length, replicate, Option, Some, None, slice_get, slice_set, slice_index_or, if◌then◌else◌}
+use Rattle.std.specs.Prelude.{ℕ, Bool, true, false, List, [], ◌∷◌, ◌+◌, ◌==◌, length, replicate, Option, Some, None, slice_get, slice_set, slice_index_or, if◌then◌else◌}
 use Rattle.std.specs.List.{fold, zip}
 use Rattle.kernel_values.specs.declared.call.Call.{Call}
 use Rattle.kernel_values.specs.declared.call.Call.TheVariants as call
@@ -10,6 +10,7 @@ use Rattle.kernel_values.specs.declared.reply.Reply.{Reply}
 use Rattle.kernel_values.specs.declared.reply.Reply.TheVariants as reply
 use Rattle.kernel_values.specs.declared.script.Command.{Command}
 use Rattle.kernel_values.specs.declared.script.RegRead.{RegRead}
+use Rattle.kernel_values.specs.Calls.{with_number}
 
 -- a script has 64 registers, all empty at first
 abbrev pub empty_register : ℕ
@@ -20,36 +21,6 @@ empty_registers = replicate 64 empty_register
 
 abbrev pub value_in : List ℕ → ℕ → ℕ
 value_in registers number = slice_index_or registers number empty_register
-
--- a call with one of its handles and ids, by its place among them, replaced
-
--- the parts of a send come after its channel
-abbrev pub part_replaced : ℕ → ℕ → List ℕ → List ℕ
-part_replaced zero value parts = parts
-part_replaced (suc place) value parts = slice_set parts place value
-
-abbrev pub one_of : ℕ → ℕ → ℕ → ℕ → ℕ
-one_of wanted place value old = (if place == wanted then value else old)
-
-abbrev pub with_number : ℕ → ℕ → Call → Call
-with_number place value (call.Accept port) = call.Accept (one_of 0 place value port)
-with_number place value (call.Send chan bytes parts) = call.Send (one_of 0 place value chan) bytes (part_replaced place value parts)
-with_number place value (call.Get chan) = call.Get (one_of 0 place value chan)
-with_number place value (call.Read chan id offset room parts) = call.Read (one_of 0 place value chan) (one_of 1 place value id) offset room parts
-with_number place value (call.Put chan id) = call.Put (one_of 0 place value chan) (one_of 1 place value id)
-with_number place value (call.SetCookie handle cookie) = call.SetCookie (one_of 0 place value handle) cookie
-with_number place value (call.Close handle) = call.Close (one_of 0 place value handle)
-with_number place value (call.Dup handle) = call.Dup (one_of 0 place value handle)
-with_number place value (call.SetAdd set handle mask cookie) = call.SetAdd (one_of 0 place value set) (one_of 1 place value handle) mask cookie
-with_number place value (call.SetDel set label) = call.SetDel (one_of 0 place value set) (one_of 1 place value label)
-with_number place value (call.SetMod set label mask cookie) = call.SetMod (one_of 0 place value set) (one_of 1 place value label) mask cookie
-with_number place value (call.MemRead handle offset len) = call.MemRead (one_of 0 place value handle) offset len
-with_number place value (call.MemWrite handle offset bytes) = call.MemWrite (one_of 0 place value handle) offset bytes
-with_number place value (call.Wait handle timeout) = call.Wait (one_of 0 place value handle) timeout
-with_number place value (call.NsSend conn bytes) = call.NsSend (one_of 0 place value conn) bytes
-with_number place value (call.NsRecv conn timeout) = call.NsRecv (one_of 0 place value conn) timeout
-with_number place value (call.NsClose conn) = call.NsClose (one_of 0 place value conn)
-with_number place value other = other
 
 abbrev pub read_register : List ℕ → Call → RegRead → Call
 read_register registers call read = with_number read.place (value_in registers read.reg) call

@@ -1,4 +1,4 @@
-pub mod CallKinds
+pub mod Calls
 pub mod Commands
 pub mod Lending
 pub mod Origin

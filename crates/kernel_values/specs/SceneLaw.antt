@@ -6,8 +6,7 @@ use Rattle.kernel_values.specs.declared.scene.Client.{Client}
 use Rattle.kernel_values.specs.declared.scene.StartPort.{StartPort}
 use Rattle.kernel_values.specs.declared.scene.Turn.{Turn}
 use Rattle.kernel_values.specs.declared.script.Command.{Command}
-use Rattle.kernel_values.specs.Commands.{can_be_spelled, payload_of}
-use Rattle.kernel_values.specs.CallKinds.{is_thread_call, is_client_call}
+use Rattle.kernel_values.specs.Calls.{can_be_spelled, payload_of, is_thread_call, is_client_call}
 use Rattle.kernel_values.specs.Words.{is_name, is_path, are_distinct}
 
 pub record SceneValue : Type 0 where

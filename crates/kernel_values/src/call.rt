@@ -1,7 +1,7 @@
 //! The system calls, and the calls of the normal world's clients.
 
 ghost use Rattle.std.specs.Prelude.{◌≡◌};
-ghost use Rattle.kernel_values.specs.CallKinds.{kind_of, is_kind_of_client, is_kind_of_driver, is_kind_of_thread};
+ghost use Rattle.kernel_values.specs.Calls.{kind_of, is_kind_of_client, is_kind_of_driver, is_kind_of_thread, handle_count, one_of, part_replaced, payload_of, with_number};
 
 use crate::copied::Copied;
 use crate::flags::{ConnectFlags, Events, MemFlags, PortFlags};
@@ -190,6 +190,120 @@ impl Call {
             Call::NsKick { queue: _, head: _ } => CallKind::Direct,
             _ => CallKind::Thread,
         }
+    }
+
+    /// How many handles and ids the call's line writes, each of which may be read from a register.
+    pub fn handle_count(&self) -> u128
+        ensures { result ≡ handle_count self.now }
+    {
+        match self {
+            Call::Send { parts, .. } => parts.len() as u128 + 1,
+            Call::Read { .. }
+            | Call::Put { .. }
+            | Call::SetAdd { .. }
+            | Call::SetDel { .. }
+            | Call::SetMod { .. } => 2,
+            Call::Accept { .. }
+            | Call::Get { .. }
+            | Call::SetCookie { .. }
+            | Call::Close { .. }
+            | Call::Dup { .. }
+            | Call::MemRead { .. }
+            | Call::MemWrite { .. }
+            | Call::Wait { .. }
+            | Call::NsSend { .. }
+            | Call::NsRecv { .. }
+            | Call::NsClose { .. } => 1,
+            _ => 0,
+        }
+    }
+
+    /// The handle or id at this place of the call is replaced, where the call has such a place.
+    pub fn set_number(&mut self, place: u32, value: u32)
+        ensures { self.new ≡ with_number place value self.old }
+    {
+        match self {
+            Call::Accept { port } => set_one(port, 0, place, value),
+            Call::Send { chan, parts, .. } => {
+                set_one(chan, 0, place, value);
+                set_part(parts, place, value);
+            }
+            Call::Get { chan } => set_one(chan, 0, place, value),
+            Call::Read { chan, id, .. } => {
+                set_one(chan, 0, place, value);
+                set_one(id, 1, place, value);
+            }
+            Call::Put { chan, id } => {
+                set_one(chan, 0, place, value);
+                set_one(id, 1, place, value);
+            }
+            Call::SetCookie { handle, .. } => set_one(handle, 0, place, value),
+            Call::Close { handle } => set_one(handle, 0, place, value),
+            Call::Dup { handle } => set_one(handle, 0, place, value),
+            Call::SetAdd { set, handle, .. } => {
+                set_one(set, 0, place, value);
+                set_one(handle, 1, place, value);
+            }
+            Call::SetDel { set, label } => {
+                set_one(set, 0, place, value);
+                set_one(label, 1, place, value);
+            }
+            Call::SetMod { set, label, .. } => {
+                set_one(set, 0, place, value);
+                set_one(label, 1, place, value);
+            }
+            Call::MemRead { handle, .. } => set_one(handle, 0, place, value),
+            Call::MemWrite { handle, .. } => set_one(handle, 0, place, value),
+            Call::Wait { handle, .. } => set_one(handle, 0, place, value),
+            Call::NsSend { conn, .. } => set_one(conn, 0, place, value),
+            Call::NsRecv { conn, .. } => set_one(conn, 0, place, value),
+            Call::NsClose { conn } => set_one(conn, 0, place, value),
+            Call::PortCreate { .. }
+            | Call::Connect { .. }
+            | Call::SetCreate
+            | Call::MemCreate { .. }
+            | Call::WaitAny { .. }
+            | Call::Exit { .. }
+            | Call::Finish
+            | Call::NsConnect { .. }
+            | Call::NsPoke { .. }
+            | Call::NsKick { .. } => {}
+        }
+    }
+
+    /// The bytes that the call writes or asks to read.
+    pub fn payload(&self) -> u64
+        ensures { result ≡ payload_of self.now }
+    {
+        match self {
+            Call::Send { bytes, .. }
+            | Call::MemWrite { bytes, .. }
+            | Call::NsSend { bytes, .. }
+            | Call::NsPoke { bytes, .. } => bytes.len() as u64,
+            Call::Read { room, .. } => u64::from(*room),
+            Call::MemRead { len, .. } => u64::from(*len),
+            _ => 0,
+        }
+    }
+}
+
+fn set_one(number: &mut u32, wanted: u32, place: u32, value: u32)
+    ensures { number.new ≡ one_of wanted place value number.old }
+{
+    if place == wanted {
+        *number = value;
+    }
+}
+
+// The parts of a send come after its channel, which has the place 0.
+fn set_part(parts: &mut Handles, place: u32, value: u32)
+    ensures { parts.new ≡ part_replaced place value parts.old }
+{
+    if place == 0 {
+        return;
+    }
+    if let Some(part) = parts.get_mut(place as usize - 1) {
+        *part = value;
     }
 }
 

@@ -13,7 +13,7 @@ use Rattle.kernel_values.specs.declared.world.ClientWait.{ClientWait}
 use Rattle.kernel_values.specs.declared.world.ClientWaitOn.{ClientWaitOn}
 use Rattle.kernel_types.specs.Clients.{client_cancelled, client_changed, client_ended, client_running, client_waiting, new_wait}
 use Rattle.kernel_values.specs.declared.call.CallKind.TheVariants as kind
-use Rattle.kernel_values.specs.CallKinds.{kind_of}
+use Rattle.kernel_values.specs.Calls.{kind_of}
 use Rattle.kernel_types.specs.Waits.{is_due}
 use Rattle.ns_driver.specs.Acts.{acted, awaited, bare, told, wait_if}
 use Rattle.ns_driver.specs.Worlds.{clients_with, deadline_after}

@@ -19,7 +19,7 @@ use Rattle.kernel_values.specs.declared.world.Driver.{Driver}
 use Rattle.kernel_values.specs.declared.world.World.{World}
 use Rattle.virtqueue.specs.Layout.{published, written_at}
 use Rattle.kernel_types.specs.Clients.{Acted, answer_of_wait, asked_connection, asks, close_by_status, close_on, closed_connection, connect_answer, connect_answer_of, counts, greatest_head, is_asked, is_closed, next_address, ns_act, ns_close_call, ns_connect_call, ns_gives, ns_kick_call, ns_poke_call, ns_recv_call, ns_refuses, ns_send_call, ns_waits, own_connection, receive_answer, receive_from, receive_on, receive_or_wait, send_by, send_by_status, send_established, send_frame, send_limit, send_on, sent_in, shuts, with_inbox}
-use Rattle.kernel_values.specs.CallKinds.{is_client_call}
+use Rattle.kernel_values.specs.Calls.{is_client_call}
 use Rattle.kernel_types.specs.Drains.{connection_changed, connection_of, connection_place, drained}
 use Rattle.kernel_types.specs.GuestMemory.{memory_size, ring}
 use Rattle.kernel_types.specs.Objects.{set_if}

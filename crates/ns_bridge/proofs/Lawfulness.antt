@@ -27,7 +27,7 @@ use Rattle.kernel_types.specs.declared.kernel.StepCause.TheVariants.{NotMovable,
 use Rattle.kernel_types.specs.Waits.{activity_may_move, end_of_wait, may_move, thread_movable}
 use Rattle.kernel_types.proofs.Actors.{begin_of_thread, resume_of_thread, thread_moves, status_of_client, status_of_thread}
 use Rattle.ns_bridge.specs.Lawful.{is_lawful, is_running_as, is_waiting_as, makes, runs_as, waits_as}
-use Rattle.kernel_values.specs.CallKinds.{is_of_client, is_of_thread}
+use Rattle.kernel_values.specs.Calls.{is_of_client, is_of_thread}
 use Rattle.ns_bridge.proofs.ClientSteps.{statuses_long}
 use Rattle.ns_bridge.proofs.Readings.{none_past, past}
 

@@ -19,7 +19,7 @@ use Rattle.kernel_values.specs.declared.world.World.{World}
 use Rattle.kernel_types.specs.Clients.{Acted, client_may_move, end_of_ns_wait, ns_act}
 use Rattle.kernel_values.specs.declared.call.CallKind.{CallKind}
 use Rattle.kernel_values.specs.declared.call.CallKind.TheVariants as kind
-use Rattle.kernel_values.specs.CallKinds.{is_client_call, is_kind_in_client, kind_of}
+use Rattle.kernel_values.specs.Calls.{is_client_call, is_kind_in_client, kind_of}
 use Rattle.kernel_types.specs.CoreStep.{core_begin, core_resume}
 use Rattle.kernel_types.specs.Drains.{drained}
 use Rattle.kernel_types.specs.Step.{beside_core, begin, client_begin, client_call_as, client_call_of, client_may_move_if, client_movable, client_number, client_resume, client_resume_as, client_resume_of, step, in_world as in_kernel_world, is_thread, resume, runs_again}

@@ -15,7 +15,7 @@ use Rattle.kernel_values.specs.declared.world.ClientWait.{ClientWait}
 use Rattle.kernel_values.specs.declared.world.ClientWaitOn.{ClientWaitOn}
 use Rattle.kernel_values.specs.declared.world.Driver.{Driver}
 use Rattle.kernel_types.specs.Clients.{Acted, client_changed, client_ended, client_running}
-use Rattle.kernel_values.specs.CallKinds.{is_client_call}
+use Rattle.kernel_values.specs.Calls.{is_client_call}
 use Rattle.kernel_types.specs.Limits.{IsInboxWithin, full_room, room_of_call}
 use Rattle.kernel_types.specs.Objects.{map_at}
 use Rattle.kernel_types.specs.Opening.{opening_client, opening_driver}

@@ -5,7 +5,7 @@ use Rattle.kernel_values.specs.declared.call.Call.{Call}
 use Rattle.kernel_values.specs.declared.call.Call.TheVariants as call
 use Rattle.kernel_values.specs.declared.call.CallKind.{CallKind}
 use Rattle.kernel_values.specs.declared.call.CallKind.TheVariants as kind
-use Rattle.kernel_values.specs.CallKinds.{kind_of}
+use Rattle.kernel_values.specs.Calls.{kind_of}
 use Rattle.kernel_values.specs.declared.entry.Event.{Event}
 use Rattle.kernel_values.specs.declared.entry.Event.TheVariants as event
 use Rattle.kernel_values.specs.declared.errno.Errno.TheVariants as errno

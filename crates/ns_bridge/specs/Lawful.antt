@@ -6,7 +6,7 @@ use Rattle.kernel_values.specs.declared.entry.ActorStatus.TheVariants as status
 use Rattle.kernel_values.specs.declared.entry.Event.{Event}
 use Rattle.kernel_values.specs.declared.entry.Event.TheVariants as event
 use Rattle.kernel_values.specs.declared.state.State.{State}
-use Rattle.kernel_values.specs.CallKinds.{is_of_client, is_of_thread}
+use Rattle.kernel_values.specs.Calls.{is_of_client, is_of_thread}
 use Rattle.kernel_types.specs.Facts.{status_at}
 use Rattle.kernel_types.specs.Kernel.{step_limit}
 use Rattle.kernel_types.specs.Step.{device_has_work, idle_lawful, is_thread, movable}

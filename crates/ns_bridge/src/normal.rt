@@ -3,7 +3,7 @@
 ghost use Rattle.std.specs.Prelude.{◌≡◌, ◌<◌, ◌≤◌, ◌+◌, length, map, slice_set, Some, IfOk, IfNone, IfSome, IsTrue, OnErr, true};
 ghost use Rattle.std.specs.List.{All, list_any};
 ghost use Rattle.std.specs.Option.{is_some, option_map};
-ghost use Rattle.kernel_values.specs.CallKinds.{is_client_call};
+ghost use Rattle.kernel_values.specs.Calls.{is_client_call};
 ghost use Rattle.kernel_types.specs.GuestMemory.{blank_memory, opening_memory};
 ghost use Rattle.kernel_types.specs.Kernel.{step_limit};
 ghost use Rattle.kernel_types.specs.Limits.{FitsIn, IsInboxWithin, full_room, room_by, room_of_call};

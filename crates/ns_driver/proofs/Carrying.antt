@@ -8,7 +8,7 @@ use Rattle.kernel_values.specs.declared.call.Call.{Call}
 use Rattle.kernel_values.specs.declared.call.Call.TheVariants as call
 use Rattle.kernel_values.specs.declared.call.CallKind.{CallKind}
 use Rattle.kernel_values.specs.declared.call.CallKind.TheVariants as kind
-use Rattle.kernel_values.specs.CallKinds.{kind_of, is_kind_in_client, is_kind_of_driver}
+use Rattle.kernel_values.specs.Calls.{kind_of, is_kind_in_client, is_kind_of_driver}
 use Rattle.kernel_values.specs.declared.reply.Answer.{Answer}
 use Rattle.kernel_types.specs.Objects.{set_if}
 use Rattle.tipc_proto.specs.declared.frames.Frame.{Frame}

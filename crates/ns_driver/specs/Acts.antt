@@ -11,7 +11,7 @@ use Rattle.kernel_values.specs.declared.world.ClientWaitOn.TheVariants as wait_o
 use Rattle.kernel_values.specs.declared.world.Driver.{Driver}
 use Rattle.kernel_values.specs.declared.world.World.{World}
 use Rattle.kernel_types.specs.Clients.{Acted, ns_act, answer_of_wait, first_address}
-use Rattle.kernel_values.specs.CallKinds.{is_client_call, drains}
+use Rattle.kernel_values.specs.Calls.{is_client_call, drains}
 use Rattle.kernel_types.specs.Drains.{drained}
 use Rattle.kernel_types.specs.Opening.{opening_device}
 

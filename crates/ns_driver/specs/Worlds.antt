@@ -14,7 +14,7 @@ use Rattle.kernel_values.specs.declared.world.ClientWait.{ClientWait}
 use Rattle.kernel_values.specs.declared.world.ClientWaitOn.{ClientWaitOn}
 use Rattle.kernel_values.specs.declared.world.World.{World}
 use Rattle.kernel_types.specs.Clients.{Acted, ns_act, ns_refuses, answer_of_wait, end_of_ns_wait, client_changed, client_waiting, new_wait}
-use Rattle.kernel_values.specs.CallKinds.{is_client_call}
+use Rattle.kernel_values.specs.Calls.{is_client_call}
 use Rattle.kernel_types.specs.Drains.{drained}
 use Rattle.ns_driver.specs.Acts.{bare, begun, still_waits, awaited, wait_if, has_answer}
 

@@ -2,7 +2,7 @@
 
 ghost use Rattle.std.specs.Prelude.{◌≡◌, ℕ, length, Option, Some};
 ghost use Rattle.std.specs.Option.{option_map};
-ghost use Rattle.kernel_values.specs.CallKinds.{kind_of};
+ghost use Rattle.kernel_values.specs.Calls.{kind_of};
 ghost use Rattle.kernel_values.specs.declared.call.CallKind.TheVariants as kind;
 ghost use Rattle.kernel_types.specs.Clients.{ns_poke_call, ns_kick_call};
 ghost use Rattle.ns_driver.specs.Value.{IsSound};

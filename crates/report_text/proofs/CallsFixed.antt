@@ -4,7 +4,7 @@ use Rattle.std.specs.Prelude.{codes, decimal, nat_lt, ◌==◌, ◌&&◌, bytes_
 use Rattle.std.specs.List.{AllByRecursion, list_all, list_any}
 use Rattle.std.proofs.lemmas.Bool.Decides.{nat_tests}
 use Rattle.std.proofs.lemmas.Slice.Eq.{bytes_eq-Decides}
-use Rattle.kernel_values.specs.Commands.{can_be_spelled}
+use Rattle.kernel_values.specs.Calls.{can_be_spelled}
 use Rattle.kernel_values.specs.Words.{is_word, is_printable}
 use Rattle.kernel_values.specs.declared.call.Call.{Call}
 use Rattle.kernel_values.specs.declared.call.Call.TheVariants as call

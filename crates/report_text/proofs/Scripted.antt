@@ -4,8 +4,7 @@ use Rattle.std.proofs.lemmas.Bool.Decides.{nat_tests}
 use Rattle.std.specs.Prelude.{slice_get, ◌==◌}
 use Rattle.std.specs.List.{AllByRecursion, list_all, flat_map, fold, cons_option}
 use mathlib.Core.List.{IsPrefix}
-use Rattle.kernel_values.specs.Commands.{can_be_spelled}
-use Rattle.kernel_values.specs.CallKinds.{is_thread_call, is_client_call}
+use Rattle.kernel_values.specs.Calls.{can_be_spelled, is_thread_call, is_client_call, with_number}
 use Rattle.kernel_values.specs.SceneLaw.{SceneValue, IsLawfulScene, scripts_of, is_lawful_app, is_lawful_client, is_lawful_thread_command, is_lawful_client_command}
 use Rattle.kernel_values.specs.declared.call.Call.{Call}
 use Rattle.kernel_values.specs.declared.call.Call.TheVariants as call
@@ -17,7 +16,7 @@ use Rattle.kernel_values.specs.declared.scene.App.{App}
 use Rattle.kernel_values.specs.declared.scene.Client.{Client}
 use Rattle.kernel_values.specs.declared.script.Command.{Command}
 use Rattle.kernel_values.specs.declared.script.RegRead.{RegRead}
-use Rattle.kernel_types.specs.Scripts.{Stand, with_number, read_register, value_in, call_of, call_at, next_call, answered, one_if, led_by, calls_from, calls_of, script_begin}
+use Rattle.kernel_types.specs.Scripts.{Stand, read_register, value_in, call_of, call_at, next_call, answered, one_if, led_by, calls_from, calls_of, script_begin}
 use Rattle.kernel_types.specs.Whole.{calls_in, call_by, is_by, IsWholeHistory}
 use Rattle.report_text.proofs.WordsRead.{first_of, second_of}
 use Rattle.report_text.proofs.NamesApart.{all_at, all_append}

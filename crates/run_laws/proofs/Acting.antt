@@ -35,12 +35,12 @@ use Rattle.kernel_values.specs.declared.state.Member.{Member}
 use Rattle.kernel_types.specs.Events.{chain_limit}
 use Rattle.kernel_types.specs.Sets.{chain_through, is_label_in, is_or_contains, member_limit, new_member, set_add, set_add_entries, set_add_member, set_add_to, set_create}
 use Rattle.step_laws.specs.Walks.{is_ending}
-use Rattle.step_laws.proofs.Calls.{ReportGoes, accept_goes, close_goes, cookie_goes, del_goes, dup_goes, get_goes, memref_goes, mod_goes, mread_goes, mwrite_goes, port_goes, put_goes, read_goes, report_goes, send_goes}
+use Rattle.step_laws.proofs.Calls.{ReportGoes, quiet_goes, report_goes}
 use Rattle.step_laws.proofs.Outcomes.{Comes}
 use Rattle.step_laws.proofs.Leaving.{Quiet, quiet, quiet_of, row_leaves, starts_stay}
 use Rattle.step_laws.proofs.TurnLeaving.{comes_quiet}
 use Rattle.step_laws.proofs.Steps.{none_yet}
-use Rattle.run_laws.proofs.Finals.{Answers, IsFinal, accept_answers, close_answers, cookie_answers, del_answers, dup_answers, get_answers, memref_answers, mod_answers, mread_answers, mwrite_answers, port_answers, put_answers, read_answers, send_answers}
+use Rattle.run_laws.proofs.Finals.{IsFinal, answered_final}
 
 -- what is to hold of an answer and the state that comes with it, after a call of the thread `k` in the state `c`
 pub record Upheld (c : CoreState) (k : ℕ) : Type 1 where
@@ -53,11 +53,11 @@ module _ (c : CoreState) (k : ℕ) (U : Upheld c k) where
   record Upholds (outcome : Outcome) : Type 0 where
     upheld : U.holds outcome.answer outcome.core
 
-  by_quiet : (o : Outcome) → Answers o → Quiet c o.core → Upholds o
+  by_quiet : (o : Outcome) → IsFinal o.answer → Quiet c o.core → Upholds o
   by_quiet o final q = record { upheld = U.quiet o.answer o.core final q }
 
-  by_comes : {app : ℕ} {reads : Bool} (o : Outcome) → Answers o → Comes (Some app) reads c o → Upholds o
-  by_comes o final comes = by_quiet o final (comes_quiet c o comes)
+  by_comes : {app : ℕ} {reads : Bool} (o : Outcome) → Comes (Some app) reads false c o → Upholds o
+  by_comes o comes = by_quiet o (answered_final false o.answer comes.answers) (comes_quiet c o comes)
 
   by_wait : (d : CoreState) (on : WaitOn) (deadline : Option ℕ) → Quiet c d → Upholds (waits_on k on deadline d)
   by_wait d on deadline q = record { upheld = U.waits d (new_wait on deadline) q }
@@ -154,23 +154,9 @@ module _ (c : CoreState) (k : ℕ) (U : Upheld c k) where
 
   up_act : (app : ℕ) (asked : Call) → is_ending asked ≡ false → UpholdsIf (act c k app asked)
   unfolding act
-  up_act app (call.PortCreate path bufs size flags) goes = by_comes _ (port_answers c app path bufs size flags) (port_goes app c c (none_yet (Some app) c) path bufs size flags)
   up_act app (call.Connect path flags) goes = up_connect app path flags
-  up_act app (call.Accept port) goes = by_comes _ (accept_answers c app port) (accept_goes app c c (none_yet (Some app) c) port)
-  up_act app (call.Send chan bytes parts) goes = by_comes _ (send_answers c app chan bytes parts) (send_goes app c c (none_yet (Some app) c) chan bytes parts)
-  up_act app (call.Get chan) goes = by_comes _ (get_answers c app chan) (get_goes app c c (none_yet (Some app) c) chan)
-  up_act app (call.Read chan id offset room parts) goes = by_comes _ (read_answers c app chan id offset room parts) (read_goes app c c (none_yet (Some app) c) chan id offset room parts)
-  up_act app (call.Put chan id) goes = by_comes _ (put_answers c app chan id) (put_goes app c c (none_yet (Some app) c) chan id)
-  up_act app (call.SetCookie handle cookie) goes = by_comes _ (cookie_answers c app handle cookie) (cookie_goes app c c (none_yet (Some app) c) handle cookie)
-  up_act app (call.Close handle) goes = by_comes _ (close_answers c app handle) (close_goes app c c (none_yet (Some app) c) handle)
-  up_act app (call.Dup handle) goes = by_comes _ (dup_answers c app handle) (dup_goes app c c (none_yet (Some app) c) handle)
   up_act app call.SetCreate goes = up_set app
   up_act app (call.SetAdd set handle mask cookie) goes = up_add app set handle mask cookie
-  up_act app (call.SetDel set label) goes = by_comes _ (del_answers c app set label) (del_goes app c c (none_yet (Some app) c) set label)
-  up_act app (call.SetMod set label mask cookie) goes = by_comes _ (mod_answers c app set label mask cookie) (mod_goes app c c (none_yet (Some app) c) set label mask cookie)
-  up_act app (call.MemCreate size flags) goes = by_comes _ (memref_answers c app size flags) (memref_goes app c c (none_yet (Some app) c) size flags)
-  up_act app (call.MemRead handle offset len) goes = by_comes _ (mread_answers c app handle offset len) (mread_goes app c c (none_yet (Some app) c) handle offset len)
-  up_act app (call.MemWrite handle offset bytes) goes = by_comes _ (mwrite_answers c app handle offset bytes) (mwrite_goes app c c (none_yet (Some app) c) handle offset bytes)
   up_act app (call.Wait handle timeout) goes = up_wait app handle timeout
   up_act app (call.WaitAny timeout) goes = up_wait_any app timeout
   up_act app (call.Exit code) goes = absurd (cc)
@@ -181,6 +167,8 @@ module _ (c : CoreState) (k : ℕ) (U : Upheld c k) where
   up_act app (call.NsClose conn) goes = tt
   up_act app (call.NsPoke addr bytes) goes = tt
   up_act app (call.NsKick queue head) goes = tt
+  -- the others change tables and objects alone
+  up_act app asked goes = by_comes _ (quiet_goes app c k c (none_yet (Some app) c) asked)
 
   upheld_by : (o : Option Outcome) (outcome : Outcome) → o ≡ Some outcome → UpholdsIf o → U.holds outcome.answer outcome.core
   upheld_by None outcome is u = absurd (cc)

@@ -35,7 +35,7 @@ use Rattle.kernel_types.specs.Step.{Stepped, begin, beside_core, client_begin, c
 use Rattle.kernel_types.specs.Waits.{end_of_wait}
 use Rattle.kernel_laws.proofs.Histories.{begins}
 use Rattle.run_laws.specs.Answered.{HasAnswers, IsFrom, Open}
-use Rattle.kernel_values.specs.CallKinds.{is_of_client, is_of_thread}
+use Rattle.kernel_values.specs.Calls.{is_of_client, is_of_thread}
 use Rattle.run_laws.proofs.ClientSteps.{behind, end_same, is_no_thread}
 use Rattle.run_laws.proofs.Counted.{Counts, answers_at, counted, counted_opened, counts_at, counts_call, counts_end}
 use Rattle.run_laws.proofs.Everyone.{Actor, Everyone, Stepping, actor_of, client_begins, client_resumes, device_turns, idles, thread_begins, thread_resumes}

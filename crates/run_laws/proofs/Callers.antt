@@ -1,14 +1,13 @@
 -- The calls that threads make, those that clients make, and `finish` with both; the kernel has a body for each.
 use Rattle.std.proofs.Common.{◌≡◌, ℕ, Bool, true, refl}
 use Rattle.std.specs.Option.{is_some}
-use Rattle.kernel_values.specs.CallKinds.{is_client_call, is_of_client, is_of_thread, is_thread_call}
+use Rattle.kernel_values.specs.Calls.{is_client_call, is_of_client, is_of_thread, is_thread_call, with_number}
 use Rattle.kernel_values.specs.declared.call.Call.{Call}
 use Rattle.kernel_values.specs.declared.call.Call.TheVariants as call
 use Rattle.kernel_values.specs.declared.state.CoreState.{CoreState}
 use Rattle.kernel_values.specs.declared.world.World.{World}
 use Rattle.kernel_types.specs.Clients.{ns_act}
 use Rattle.kernel_types.specs.CoreStep.{act}
-use Rattle.kernel_types.specs.Scripts.{with_number}
 
 -- calls of one kind: a register changes no call's kind, and `finish` is of it
 pub record IsKind (of_kind : Call → Bool) : Type 0 where

@@ -14,11 +14,11 @@ use Rattle.kernel_values.specs.declared.state.CoreState.{CoreState}
 use Rattle.kernel_values.specs.declared.world.World.{World}
 use Rattle.kernel_types.specs.Clients.{Acted, ns_act}
 use Rattle.kernel_types.specs.Outcome.{Outcome}
-use Rattle.kernel_types.specs.Scripts.{Stand, with_number, read_register, value_in, call_of, call_at, next_call, answered, stand_after, is_exit}
+use Rattle.kernel_types.specs.Scripts.{Stand, read_register, value_in, call_of, call_at, next_call, answered, stand_after, is_exit}
+use Rattle.kernel_values.specs.Calls.{with_number, is_of_thread, is_of_client}
 use Rattle.kernel_types.specs.CoreStep.{act}
 use Rattle.step_laws.specs.Walks.{is_ending}
 use Rattle.run_laws.proofs.Callers.{IsKind, of_thread, of_client, thread_body, client_body}
-use Rattle.kernel_values.specs.CallKinds.{is_of_thread, is_of_client}
 
 -- every command's call is of this kind
 abbrev pub IsCallable : (Call → Bool) → List Command → Type 0

@@ -33,7 +33,7 @@ use Rattle.kernel_types.specs.Sending.{frame, leave_frame, request_frame}
 use Rattle.kernel_types.specs.Step.{beside_core, client_begin, client_resume, client_status, step, runs_again}
 use Rattle.kernel_types.specs.Waits.{deadline_of, is_due, is_zero_timeout}
 use Rattle.step_laws.specs.Walks.{is_ending}
-use Rattle.kernel_values.specs.CallKinds.{is_of_client}
+use Rattle.kernel_values.specs.Calls.{is_of_client}
 use Rattle.run_laws.proofs.ClientPlaces.{ClientStands, ClientsStand, one_changes, one_stays}
 use Rattle.run_laws.proofs.Finals.{IsFinal}
 use Rattle.run_laws.proofs.Longer.{FitsCall, IsOf, begin_is_of, entry_with, resume_is_of, self_is}

@@ -32,7 +32,7 @@ use Rattle.kernel_types.specs.Waits.{end_of_wait}
 use Rattle.kernel_laws.proofs.Standing.{StepStands, step_stands}
 use Rattle.step_laws.specs.Walks.{is_ending}
 use Rattle.run_laws.proofs.Bridging.{device_stands}
-use Rattle.kernel_values.specs.CallKinds.{is_of_client, is_of_thread}
+use Rattle.kernel_values.specs.Calls.{is_of_client, is_of_thread}
 use Rattle.run_laws.proofs.ClientPlaces.{ClientsStand, cancelled_stand, clients_longer}
 use Rattle.run_laws.proofs.ClientSteps.{client_begin_step, client_begun, client_resume_step, client_woken}
 use Rattle.run_laws.proofs.Longer.{FitsCall, IsOf, all_longer, begin_is_of, entry_with, resume_is_of}

@@ -3,8 +3,7 @@ use Rattle.std.proofs.Common.{◌≡◌, ℕ, zero, suc, ◌+◌, ◌<◌, ◌�
 use Rattle.std.proofs.lemmas.List.{length-map}
 use Rattle.std.specs.Prelude.{◌⊎◌, slice_get, ◌&&◌}
 use Rattle.std.specs.List.{flat_map, enumerate_from, list_all}
-use Rattle.kernel_values.specs.Commands.{can_be_spelled}
-use Rattle.kernel_values.specs.CallKinds.{is_client_call, is_thread_call, is_of_client, is_of_thread}
+use Rattle.kernel_values.specs.Calls.{can_be_spelled, is_client_call, is_thread_call, is_of_client, is_of_thread}
 use Rattle.kernel_values.specs.SceneLaw.{SceneValue, IsLawfulScene, scripts_of, is_lawful_app, is_lawful_client, is_lawful_client_command, is_lawful_thread_command}
 use Rattle.kernel_values.specs.Words.{is_name}
 use Rattle.kernel_values.specs.declared.scene.App.{App}

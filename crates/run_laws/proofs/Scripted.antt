@@ -11,7 +11,7 @@ use Rattle.kernel_values.specs.declared.reply.Answer.TheVariants as answer
 use Rattle.kernel_values.specs.declared.script.Command.{Command}
 use Rattle.kernel_types.specs.Scripts.{Stand, script_begin, stand_on, answered}
 use Rattle.kernel_types.specs.Whole.{answers_in, answer_by, final_answer}
-use Rattle.kernel_values.specs.CallKinds.{is_of_client, is_of_thread}
+use Rattle.kernel_values.specs.Calls.{is_of_client, is_of_thread}
 use Rattle.run_laws.proofs.Calling.{IsCallable, HasCall, HasCommand, has_call, answer_goes_on}
 use Rattle.run_laws.proofs.Entries.{answers_more}
 use Rattle.run_laws.proofs.Longer.{FitsCall, IsOf, begin_is_of, entry_with}

@@ -29,7 +29,7 @@ use Rattle.kernel_types.proofs.Actors.{thread_is_thread}
 use Rattle.step_laws.proofs.Leaving.{Quiet, starts_of}
 use Rattle.step_laws.specs.Walks.{is_ending}
 use Rattle.run_laws.proofs.Acting.{Upheld, act_upholds}
-use Rattle.kernel_values.specs.CallKinds.{is_of_thread}
+use Rattle.kernel_values.specs.Calls.{is_of_thread}
 use Rattle.run_laws.proofs.Longer.{FitsCall, IsOf, all_longer, begin_is_of, but_longer, entry_with, resume_is_of, self_is}
 use Rattle.run_laws.proofs.Places.{AllBut, AllStand, OthersFit, all_changed, all_with, apart, ended_stands, idle_stands, quiet_but, quiet_stands, same_start_ended, same_start_running, same_start_waiting, start_of, started_stands}
 use Rattle.run_laws.proofs.Standings.{Standings}

@@ -31,7 +31,7 @@ use Rattle.kernel_types.specs.CoreStep.{act, status_of, swept, resumed}
 use Rattle.kernel_types.specs.Step.{Stepped, beside_core, client_movable, client_status, device_has_work, device_stepped, step, idle, idle_lawful, in_world, movable, runs_again}
 use Rattle.kernel_types.specs.Turns.{Run, grown, event_of, run_event, run_turn, takes_turn, kernel_turn, begin_by_script, begin_if, event_by_status}
 use Rattle.kernel_types.specs.Waits.{end_of_wait, thread_movable}
-use Rattle.kernel_values.specs.CallKinds.{is_of_client, is_of_thread}
+use Rattle.kernel_values.specs.Calls.{is_of_client, is_of_thread}
 use Rattle.run_laws.proofs.Calling.{IsNext, acted_of, client_next, outcome_of, some_of, thread_next}
 use Rattle.run_laws.proofs.ClientSteps.{client_stays_waiting}
 use Rattle.run_laws.proofs.Everyone.{Actor, Everyone, Stepping, actor_of, client_begins, client_resumes, device_turns, idles, thread_begins, thread_resumes}

@@ -4,8 +4,7 @@ use Rattle.std.specs.Prelude.{nat_lt, replicate, sum_by}
 use Rattle.std.specs.List.{filter, list_all, range_with_len}
 use Rattle.std.proofs.lemmas.List.Sums.{sum_by-cons}
 use Rattle.std.proofs.lemmas.List.{length-append, length-replicate}
-use Rattle.kernel_values.specs.Commands.{can_be_spelled, payload_of}
-use Rattle.kernel_values.specs.CallKinds.{is_thread_call}
+use Rattle.kernel_values.specs.Calls.{can_be_spelled, payload_of, is_thread_call}
 use Rattle.kernel_values.specs.SceneLaw.{IsLawfulScene, commands_of, is_lawful_app, is_lawful_thread_command, payload_of_script, scripts_of}
 use Rattle.kernel_values.specs.Words.{is_name}
 use Rattle.kernel_values.specs.declared.call.Call.{Call}

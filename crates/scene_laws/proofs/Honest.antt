@@ -1,7 +1,7 @@
 -- A line of a client goes past the driver by its first word alone.
-use Rattle.std.proofs.Common.{◌≡◌, ℕ, Bool, List, [], ◌∷◌, Result, Ok, refl, subst}
+use Rattle.std.proofs.Common.{◌≡◌, ℕ, List, [], ◌∷◌, Ok, refl, subst}
 use Rattle.std.specs.Prelude.{IfOk}
-use Rattle.kernel_values.specs.CallKinds.{is_honest_call}
+use Rattle.kernel_values.specs.Calls.{is_honest_call}
 use Rattle.kernel_values.specs.declared.call.Call.{Call}
 use Rattle.kernel_values.specs.declared.script.Command.{Command}
 use Rattle.script_lines.specs.declared.registers.Registers.{Registers}

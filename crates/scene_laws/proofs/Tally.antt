@@ -6,9 +6,9 @@ use Rattle.std.proofs.lemmas.Bool.{false≢true}
 use Rattle.std.proofs.lemmas.Bool.Decides.{nat_tests}
 use Rattle.std.proofs.lemmas.List.Folds.{list_all-append}
 use Rattle.kernel_types.specs.Carried.{is_honest}
-use Rattle.kernel_values.specs.CallKinds.{is_honest_call}
+use Rattle.kernel_values.specs.Calls.{is_honest_call, payload_of}
 use Rattle.kernel_values.specs.SceneLaw.{SceneValue}
-use Rattle.kernel_values.specs.Commands.{has_lawful_registers, payload_of}
+use Rattle.kernel_values.specs.Commands.{has_lawful_registers}
 use Rattle.kernel_values.specs.Words.{is_name}
 use Rattle.kernel_values.specs.declared.scene.Client.{Client}
 use Rattle.kernel_values.specs.declared.scene.Manifest.{Manifest}

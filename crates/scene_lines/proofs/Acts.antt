@@ -1,13 +1,14 @@
 -- What each line does keeps the limits.
-use Rattle.std.proofs.Common.{◌≡◌, ℕ, ◌+◌, ◌*◌, ◌<◌, ◌≤◌, Bool, true, false, not, ◌&&◌, cond, ltb, leb, List, [], ◌∷◌, ◌++◌, length, Option, Some, Result, Ok, Err, refl, sym, ap, subst, ◌∙◌, arith}
-use Rattle.std.specs.Prelude.{IfOk, nat_lt, nat_le, sum_by}
+use Rattle.std.proofs.Common.{◌≡◌, ℕ, ◌+◌, ◌*◌, ◌<◌, Bool, true, false, not, ◌&&◌, cond, ltb, leb, List, [], ◌∷◌, ◌++◌, length, Some, Result, Ok, Err, refl, sym, ap, subst, ◌∙◌, arith}
+use Rattle.std.specs.Prelude.{IfOk, nat_le, sum_by}
 use Rattle.std.specs.Result.{IsErrAnd}
 use Rattle.std.specs.List.{list_all}
-use Rattle.std.proofs.lemmas.Bool.{le-leb, leb-true, ltb-true}
+use Rattle.std.proofs.lemmas.Bool.{le-leb, ltb-true}
 use Rattle.std.proofs.lemmas.List.{length-append}
 use Rattle.std.proofs.lemmas.List.Folds.{list_all-append}
 use Rattle.std.proofs.lemmas.List.Sums.{sum_by-append}
-use Rattle.kernel_values.specs.Commands.{has_lawful_registers, payload_of}
+use Rattle.kernel_values.specs.Commands.{has_lawful_registers}
+use Rattle.kernel_values.specs.Calls.{payload_of}
 use Rattle.kernel_values.specs.Words.{is_name}
 use Rattle.kernel_values.specs.SceneLaw.{is_lawful_app, is_lawful_client, is_lawful_thread_command, is_lawful_client_command, is_queue_size, payload_of_script}
 use Rattle.kernel_values.specs.declared.scene.App.{App}
@@ -34,7 +35,7 @@ use Rattle.script_lines.specs.Texts.{after_two_words}
 use Rattle.scene_lines.specs.Reading.{is_within, with_used, after_command, with_command, with_client_command, extended, next_thread, after_repeat, closed, client_closed, repeated, app_of, apps_with, client_of, clients_with, is_named, with_ports, with_app, new_app, most_apps, described_app, manifest_act, with_client, new_client, most_clients}
 use Rattle.scene_lines.specs.Lawful.{KeepsCount, IsCounted, IsLawful}
 use Rattle.script_lines.proofs.Bytes.{and_true}
-use Rattle.scene_lines.proofs.Keeping.{AppFacts, facts_of, from_facts, change_last, change_client, add_app, add_client, size_told, repeated_all, repeated_length, repeated_payload}
+use Rattle.scene_lines.proofs.Keeping.{facts_of, from_facts, change_last, change_client, add_app, add_client, size_told, repeated_all, repeated_length, repeated_payload}
 
 -- what holds of each value that the rule gives holds of what was read
 pub kept_by : {X : Type 0} (P : X → Type 0) (result : Result X LineRefused) (rule : Result X SceneKind) → Gives (λ x. x) result rule → ((x : X) → rule ≡ Ok x → P x) → IfOk result P

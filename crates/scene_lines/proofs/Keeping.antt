@@ -1,6 +1,6 @@
 -- How the limits are kept: one application or client more, a change of the last one, and the scene at the end.
-use Rattle.std.proofs.Common.{◌≡◌, ℕ, zero, suc, ◌+◌, ◌*◌, ◌<◌, ◌≤◌, Bool, true, false, not, ◌&&◌, ◌||◌, List, [], ◌∷◌, ◌++◌, length, map, Option, Some, None, Result, Ok, Err, refl, sym, ap, subst, ◌∙◌, append_assoc, arith, cond, ltb, leb}
-use Rattle.std.specs.Prelude.{bytes_eq, nat_lt, nat_le, sum_by}
+use Rattle.std.proofs.Common.{◌≡◌, ℕ, zero, suc, ◌+◌, ◌*◌, ◌<◌, Bool, true, false, not, ◌&&◌, ◌||◌, List, [], ◌∷◌, ◌++◌, length, map, Some, Result, Ok, Err, refl, sym, ap, subst, ◌∙◌, append_assoc, arith, cond, leb}
+use Rattle.std.specs.Prelude.{bytes_eq, nat_le, sum_by}
 use Rattle.std.specs.List.{flat_map, list_all, list_any}
 use Rattle.std.proofs.lemmas.Bool.{false≢true, le-leb}
 use Rattle.std.proofs.Math.Nat.{suc-mul}
@@ -9,9 +9,9 @@ use Rattle.std.proofs.lemmas.List.Concat.{flat_map-append}
 use Rattle.std.proofs.lemmas.List.Folds.{list_all-append, list_any-append}
 use Rattle.std.proofs.lemmas.List.Sums.{sum_by-append}
 use Rattle.std.proofs.lemmas.Slice.Eq.{bytes_eq-Decides}
-use Rattle.kernel_values.specs.Commands.{payload_of}
+use Rattle.kernel_values.specs.Calls.{payload_of}
 use Rattle.kernel_values.specs.Words.{is_name, are_distinct}
-use Rattle.kernel_values.specs.SceneLaw.{SceneValue, IsLawfulScene, is_lawful_app, is_lawful_client, is_lawful_start_port, is_lawful_thread_command, is_lawful_client_command, is_queue_size, payload_of_script}
+use Rattle.kernel_values.specs.SceneLaw.{IsLawfulScene, is_lawful_app, is_lawful_client, is_lawful_start_port, is_lawful_thread_command, is_queue_size, payload_of_script}
 use Rattle.kernel_values.specs.declared.scene.App.{App}
 use Rattle.kernel_values.specs.declared.scene.Client.{Client}
 use Rattle.kernel_values.specs.declared.scene.StartPort.{StartPort}
@@ -20,9 +20,9 @@ use Rattle.kernel_values.specs.declared.script.Command.{Command}
 use Rattle.script_lines.specs.declared.fault.SceneKind.{SceneKind}
 use Rattle.scene_lines.specs.declared.reading.Noted.{Noted}
 use Rattle.scene_lines.specs.declared.reading.Used.{Used}
-use Rattle.scene_lines.specs.Reading.{is_within, with_used, is_taken, is_named, with_ports, repeated, most_apps, most_clients, queue_of}
+use Rattle.scene_lines.specs.Reading.{is_within, is_taken, is_named, with_ports, repeated, most_apps, most_clients, queue_of}
 use Rattle.script_lines.proofs.Bytes.{and_true}
-use Rattle.scene_lines.specs.Lawful.{scripts_in, client_scripts, paths_in, KeepsCount}
+use Rattle.scene_lines.specs.Lawful.{scripts_in, client_scripts, KeepsCount}
 
 pub or_false : (a b : Bool) → (a || b) ≡ false → (a ≡ false) × (b ≡ false)
 or_false false b h = (refl, h)

@@ -1,7 +1,8 @@
 -- What each line does to what was read before it.
-use Rattle.std.specs.Prelude.{ℕ, ◌+◌, ◌*◌, Bool, true, false, List, [], ◌∷◌, ◌++◌, ◌&&◌, ◌||◌, length, map, zero, suc, nat_lt, nat_le, bytes_eq, codes, Option, Some, None, Result, Ok, Err, not, if◌then◌else◌}
+use Rattle.std.specs.Prelude.{ℕ, ◌+◌, ◌*◌, Bool, true, false, List, [], ◌∷◌, ◌++◌, ◌&&◌, ◌||◌, length, zero, suc, nat_lt, nat_le, bytes_eq, codes, Option, Some, None, Result, Ok, Err, not, if◌then◌else◌}
 use Rattle.std.specs.List.{list_all, list_any}
-use Rattle.kernel_values.specs.Commands.{has_lawful_registers, payload_of}
+use Rattle.kernel_values.specs.Commands.{has_lawful_registers}
+use Rattle.kernel_values.specs.Calls.{payload_of}
 use Rattle.std.specs.Option.{is_none, unwrap_or}
 use Rattle.kernel_values.specs.Words.{is_name}
 use Rattle.kernel_values.specs.SceneLaw.{is_queue_size}
@@ -32,7 +33,6 @@ use Rattle.script_lines.specs.declared.words.PartWord.{PartWord}
 use Rattle.script_lines.specs.declared.words.PartWord.TheVariants as part
 use Rattle.script_lines.specs.declared.words.ScriptWord.{ScriptWord}
 use Rattle.script_lines.specs.declared.words.ScriptWord.TheVariants as script
-use Rattle.script_lines.specs.Gives.{◌>>=◌}
 use Rattle.script_lines.specs.Texts.{is_text_byte, words_of, is_skipped, after_two_words}
 use Rattle.script_lines.specs.Numbers.{number, number_within}
 use Rattle.script_lines.specs.LineWords.{line_word}

@@ -2,40 +2,14 @@
 
 ghost use Rattle.std.specs.Prelude.{◌≡◌, IfOk, IsTrue};
 ghost use Rattle.std.specs.List.{list_all};
-ghost use Rattle.kernel_values.specs.Commands.{has_lawful_registers, handle_count, payload_of, is_register, is_lawful_read};
+ghost use Rattle.kernel_values.specs.Commands.{has_lawful_registers, is_register, is_lawful_read};
 ghost use Rattle.script_lines.specs.Gives.{Gives};
 ghost use Rattle.scene_lines.specs.Reading.{is_within, after_command};
 
 use crate::reading::Used;
-use kernel_values::{Call, Command, RegRead};
+use kernel_values::{Command, RegRead};
 use script_lines::fault::LineRefused::{self, Fault};
 use script_lines::fault::SceneKind::TooMany;
-
-// How many handles and ids the call's line writes.
-fn handle_count(call: &Call) -> u128
-    ensures { result ≡ handle_count call.now }
-{
-    match call {
-        Call::Send { parts, .. } => parts.len() as u128 + 1,
-        Call::Read { .. }
-        | Call::Put { .. }
-        | Call::SetAdd { .. }
-        | Call::SetDel { .. }
-        | Call::SetMod { .. } => 2,
-        Call::Accept { .. }
-        | Call::Get { .. }
-        | Call::SetCookie { .. }
-        | Call::Close { .. }
-        | Call::Dup { .. }
-        | Call::MemRead { .. }
-        | Call::MemWrite { .. }
-        | Call::Wait { .. }
-        | Call::NsSend { .. }
-        | Call::NsRecv { .. }
-        | Call::NsClose { .. } => 1,
-        _ => 0,
-    }
-}
 
 fn is_register(reg: u32) -> bool
     ensures { result ≡ is_register reg }
@@ -65,23 +39,8 @@ fn are_registers(regs: &[u32]) -> bool
 pub fn has_lawful_registers(command: &Command) -> bool
     ensures { result ≡ has_lawful_registers command.now }
 {
-    are_lawful_reads(handle_count(&command.call), command.reads.as_slice())
+    are_lawful_reads(command.call.handle_count(), command.reads.as_slice())
         && are_registers(command.sets.as_slice())
-}
-
-/// The bytes that the call writes or asks to read.
-pub fn payload_of(call: &Call) -> u64
-    ensures { result ≡ payload_of call.now }
-{
-    match call {
-        Call::Send { bytes, .. }
-        | Call::MemWrite { bytes, .. }
-        | Call::NsSend { bytes, .. }
-        | Call::NsPoke { bytes, .. } => bytes.len() as u64,
-        Call::Read { room, .. } => u64::from(*room),
-        Call::MemRead { len, .. } => u64::from(*len),
-        _ => 0,
-    }
 }
 
 /// Whether a scene may have so many commands, and so many bytes of payload.
@@ -99,7 +58,7 @@ pub fn after_command(used: Used, command: &Command) -> Result<Used, LineRefused>
 {
     let after = Used {
         commands: used.commands.saturating_add(1),
-        payload: used.payload.saturating_add(payload_of(&command.call)),
+        payload: used.payload.saturating_add(command.call.payload()),
     };
     if !has_lawful_registers(command) || !is_within(&after) {
         return Err(Fault(TooMany));

@@ -6,7 +6,7 @@ ghost use Rattle.kernel_values.specs.Commands.{has_lawful_registers};
 ghost use Rattle.script_lines.specs.Gives.{Gives};
 ghost use Rattle.scene_lines.specs.Reading.{extended, begun, repeated, after_repeat};
 
-use crate::limits::{has_lawful_registers, is_within, payload_of};
+use crate::limits::{has_lawful_registers, is_within};
 use crate::reading::{Repeat, Used};
 use kernel_values::{Command, Copied, NoMemory, Script};
 use script_lines::fault::LineRefused::{self, Fault};
@@ -34,7 +34,7 @@ pub fn extended(repeat: Repeat, command: Command) -> Result<Repeat, NoMemory>
     let mut repeat = repeat;
     let after = Used {
         commands: (repeat.body.as_slice().len() as u64).saturating_add(1),
-        payload: repeat.payload.saturating_add(payload_of(&command.call)),
+        payload: repeat.payload.saturating_add(command.call.payload()),
     };
     if !has_lawful_registers(&command) || !is_within(&after) {
         drop(command);

@@ -5,7 +5,8 @@ use Rattle.std.specs.List.{list_all, list_any}
 use Rattle.std.proofs.lemmas.Bool.{false≢true}
 use Rattle.std.proofs.lemmas.Slice.Eq.{bytes_eq-Decides}
 use Rattle.kernel_values.specs.SceneLaw.{SceneValue}
-use Rattle.kernel_values.specs.Commands.{has_lawful_registers, payload_of}
+use Rattle.kernel_values.specs.Commands.{has_lawful_registers}
+use Rattle.kernel_values.specs.Calls.{payload_of}
 use Rattle.kernel_values.specs.declared.script.Command.{Command}
 use Rattle.script_lines.specs.declared.fault.SceneKind.{SceneKind}
 use Rattle.script_lines.specs.declared.fault.SceneKind.TheVariants.{BadByte, BadWords, OpenRepeat}

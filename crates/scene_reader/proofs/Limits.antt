@@ -7,7 +7,8 @@ use Rattle.std.proofs.lemmas.List.{append-nil, length-append, map_push}
 use Rattle.std.proofs.lemmas.List.Concat.{flat_map-append}
 use Rattle.std.proofs.lemmas.List.Folds.{list_all-append}
 use Rattle.std.proofs.lemmas.List.Sums.{sum_by-append}
-use Rattle.kernel_values.specs.Commands.{has_lawful_registers, payload_of}
+use Rattle.kernel_values.specs.Commands.{has_lawful_registers}
+use Rattle.kernel_values.specs.Calls.{payload_of}
 use Rattle.kernel_values.specs.SceneLaw.{payload_of_script}
 use Rattle.kernel_values.specs.declared.scene.App.{App}
 use Rattle.kernel_values.specs.declared.scene.Client.{Client}

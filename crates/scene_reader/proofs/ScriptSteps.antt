@@ -6,7 +6,8 @@ use Rattle.std.specs.Result.{is_ok}
 use Rattle.std.proofs.lemmas.Bool.{false≢true, le-leb, lt-ltb, leb-true, ltb-true}
 use Rattle.std.proofs.lemmas.List.{length-append, map_push}
 use Rattle.std.proofs.lemmas.List.Folds.{list_all-append}
-use Rattle.kernel_values.specs.Commands.{has_lawful_registers, payload_of}
+use Rattle.kernel_values.specs.Commands.{has_lawful_registers}
+use Rattle.kernel_values.specs.Calls.{payload_of}
 use Rattle.kernel_values.specs.SceneLaw.{payload_of_script}
 use Rattle.kernel_values.specs.declared.scene.App.{App}
 use Rattle.kernel_values.specs.declared.scene.Client.{Client}

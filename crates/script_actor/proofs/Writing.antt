@@ -1,28 +1,12 @@
--- Writes at a place of a list, and past its end.
-use Rattle.std.proofs.Common.{◌≡◌, ℕ, ◌<◌, ◌≤◌, ◌+◌, ◌-◌, min, drop, drop-cons, add-one, zero, suc, List, [], ◌∷◌, length, None, refl, ap, arith}
-use Rattle.std.specs.Prelude.{slice_get, slice_set, slice_index_or, unwrap_or}
+-- Reading at a place of a list, and pairs from a place on.
+use Rattle.std.proofs.Common.{◌≡◌, ℕ, ◌<◌, ◌≤◌, ◌+◌, min, drop, drop-cons, add-one, zero, suc, List, [], ◌∷◌, length, refl, arith}
+use Rattle.std.specs.Prelude.{slice_get, slice_index_or, unwrap_or}
 use Rattle.std.specs.List.{zip}
-use Rattle.kernel_types.specs.Scripts.{part_replaced}
-
-pub set_past : (xs : List ℕ) (i x : ℕ) → length xs ≤ i → slice_set xs i x ≡ xs
-set_past [] i x h = refl
-set_past (y ∷ ys) zero x h = absurd (omega arith)
-set_past (y ∷ ys) (suc i) x h = ap (λ zs. y ∷ zs) (set_past ys i x (omega arith))
 
 pub value_is : (xs : List ℕ) (i d : ℕ) → slice_index_or xs i d ≡ unwrap_or (slice_get xs i) d
 value_is [] i d = refl
 value_is (y ∷ ys) zero d = refl
 value_is (y ∷ ys) (suc i) d = value_is ys i d
-
-pub set_none : (xs : List ℕ) (i x : ℕ) → slice_get xs i ≡ None → slice_set xs i x ≡ xs
-set_none [] i x h = refl
-set_none (y ∷ ys) zero x h = cc
-set_none (y ∷ ys) (suc i) x h = ap (λ zs. y ∷ zs) (set_none ys i x h)
-
--- a part comes after the channel
-pub part_is : (place value : ℕ) (parts : List ℕ) → 0 < place → part_replaced place value parts ≡ slice_set parts (place - 1) value
-part_is zero value parts h = absurd (omega arith)
-part_is (suc place) value parts h = let e : suc place - 1 ≡ place = omega arith in rw e refl
 
 zip-none : (ks : List ℕ) → zip {X = ℕ} ks [] ≡ []
 zip-none [] = refl

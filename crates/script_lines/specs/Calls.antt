@@ -1,7 +1,6 @@
 -- The lines of a thread's script: what each of them calls.
 use Rattle.std.specs.Prelude.{ℕ, Bool, ◌&&◌, List, [], ◌∷◌, length, nat_le, Result, Ok, Err, if◌then◌else◌}
-use Rattle.kernel_values.specs.Commands.{can_be_spelled}
-use Rattle.kernel_values.specs.CallKinds.{is_thread_call}
+use Rattle.kernel_values.specs.Calls.{can_be_spelled, is_thread_call}
 use Rattle.kernel_values.specs.declared.call.Call.{Call}
 use Rattle.kernel_values.specs.declared.call.Call.TheVariants as call
 use Rattle.kernel_values.specs.declared.flags.Events.{Events}
@@ -11,7 +10,6 @@ use Rattle.script_lines.specs.declared.fault.SceneKind.TheVariants.{BadWords}
 use Rattle.script_lines.specs.declared.registers.Registers.{Registers}
 use Rattle.script_lines.specs.declared.words.CallWord.{CallWord}
 use Rattle.script_lines.specs.declared.words.CallWord.TheVariants as word
-use Rattle.script_lines.specs.Gives.{◌>>=◌}
 use Rattle.script_lines.specs.Numbers.{number, cookie, number_within, mask, timeout_word, path_word, port_flags, connect_flags, mem_flags}
 use Rattle.script_lines.specs.Payloads.{bytes_word, most_bytes}
 use Rattle.script_lines.specs.Registers.{hand, as_one, as_some, parts}

@@ -1,7 +1,6 @@
 -- The lines of a client's script: what each of them calls.
 use Rattle.std.specs.Prelude.{ℕ, Bool, ◌&&◌, List, [], ◌∷◌, Result, Ok, Err}
-use Rattle.kernel_values.specs.Commands.{can_be_spelled}
-use Rattle.kernel_values.specs.CallKinds.{is_client_call}
+use Rattle.kernel_values.specs.Calls.{can_be_spelled, is_client_call}
 use Rattle.kernel_values.specs.declared.call.Call.{Call}
 use Rattle.kernel_values.specs.declared.call.Call.TheVariants as call
 use Rattle.kernel_values.specs.declared.script.Command.{Command}
@@ -10,7 +9,6 @@ use Rattle.script_lines.specs.declared.fault.SceneKind.TheVariants.{BadWords}
 use Rattle.script_lines.specs.declared.registers.Registers.{Registers}
 use Rattle.script_lines.specs.declared.words.ClientWord.{ClientWord}
 use Rattle.script_lines.specs.declared.words.ClientWord.TheVariants as word
-use Rattle.script_lines.specs.Gives.{◌>>=◌}
 use Rattle.script_lines.specs.Numbers.{number, timeout_word, path_word}
 use Rattle.script_lines.specs.Payloads.{bytes_word}
 use Rattle.script_lines.specs.Registers.{hand, as_one}

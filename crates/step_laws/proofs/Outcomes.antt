@@ -3,6 +3,7 @@ use Rattle.std.specs.Prelude.{◌≡◌, ℕ, Bool, true, false, [], take, drop,
 use Rattle.std.specs.List.{find}
 use Rattle.kernel_values.specs.declared.call.Call.{Call}
 use Rattle.kernel_values.specs.declared.call.Call.TheVariants as call
+use Rattle.kernel_values.specs.declared.errno.Errno.TheVariants as errno
 use Rattle.kernel_values.specs.declared.reply.Answer.{Answer}
 use Rattle.kernel_values.specs.declared.reply.Answer.TheVariants as answer
 use Rattle.kernel_values.specs.declared.reply.Reply.TheVariants as reply
@@ -36,10 +37,23 @@ pub data Said (by : Option ℕ) (reads : Bool) (s : CoreState) (said : Answer) :
   says_memory : reads ≡ true → (c : CoreState) → SmallRow by s c → (id : ℕ) (memory : MemoryRef) → memory_of c.objects id ≡ Some memory → (offset len : ℕ)
       → said ≡ answer.Gives (reply.Bytes (take len (drop offset memory.bytes)) []) → Said by reads s said
 
--- an outcome that comes of changes of tables and objects alone
-pub record Comes (by : Option ℕ) (reads : Bool) (s : CoreState) (outcome : Outcome) : Type 0 where
+-- it gives or refuses; CANCELLED is left to the end of a wait
+abbrev pub is_answered : Bool → Answer → Bool
+is_answered ends (answer.Gives reply) = true
+is_answered ends (answer.Refuses errno.Cancelled) = ends
+is_answered ends (answer.Refuses other) = true
+is_answered ends other = false
+
+-- so does a call, or its wait begins
+abbrev pub is_begun : Answer → Bool
+is_begun answer.Waits = true
+is_begun other = is_answered false other
+
+-- an outcome that comes of changes of tables and objects alone; `ends` where it ends a wait
+pub record Comes (by : Option ℕ) (reads ends : Bool) (s : CoreState) (outcome : Outcome) : Type 0 where
   pub walk : SmallWalk by s (moves_of outcome.seqs) outcome.core
   pub says : Said by reads s outcome.answer
+  pub answers : is_answered ends outcome.answer ≡ true
 
 -- one that comes of these, and then of changes of threads and applications
 pub record Acts (app thread : ℕ) (asked : Call) (s : CoreState) (outcome : Outcome) : Type 0 where
@@ -47,3 +61,4 @@ pub record Acts (app thread : ℕ) (asked : Call) (s : CoreState) (outcome : Out
   pub walk : SmallWalk (Some app) s (moves_of outcome.seqs) middle
   pub changes : Row (ThreadChange app thread asked outcome.answer) (after_thread app thread asked outcome.answer) middle outcome.core
   pub says : Said (Some app) (may_list asked) s outcome.answer
+  pub answers : is_begun outcome.answer ≡ true

@@ -213,7 +213,7 @@ module _ (c : CoreState) where
   push_walks end bytes None is short = stays_so None c
   push_walks end bytes (Some source) is short =
       let outcome : Outcome = deliver c end source.peer (peer_end c.objects source.peer) bytes [] in
-      let goes : Comes None false c outcome = deliver_goes None c c (none_yet None c) end source is bytes [] short (no_parts refl) source.peer refl (peer_end c.objects source.peer) refl in
+      let goes : Comes None false false c outcome = deliver_goes None c c (none_yet None c) end source is bytes [] short (no_parts refl) source.peer refl (peer_end c.objects source.peer) refl in
       swept_so c outcome.core (bridge_walks c c outcome.core (from_here None c) goes.walk)
 
   pub ns_push_walks : (end : ℕ) (bytes : List ℕ) → length bytes ≤ (ns_view c end).size → IsWalk None c (ns_push c end bytes).seqs (ns_push c end bytes).core
@@ -225,7 +225,7 @@ module _ (c : CoreState) where
   take_walks id (Some end) is =
       let first : Option Message = find is_filled end.messages in
       let got : Outcome = get_message c id end first in
-      let opens : Comes None false c got = get_message_goes None c c (none_yet None c) id end is first refl in
+      let opens : Comes None false false c got = get_message_goes None c c (none_yet None c) id end is first refl in
       let so_far : SmallWalk None c (moves_of (only_opened got.seqs.opened)) got.core = subst (λ (q : Seqs). SmallWalk None c (moves_of q) got.core) (get_message_seqs c id end first) opens.walk in
       let last : Outcome = put_from got.core id (free_id end.messages) (end_of got.core.objects id) in
       swept_so c last.core

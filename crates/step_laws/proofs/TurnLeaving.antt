@@ -20,7 +20,7 @@ use Rattle.step_laws.proofs.Rows.{row_keeps}
 use Rattle.step_laws.proofs.Steps.{none_yet}
 use Rattle.step_laws.proofs.Turns.{Begun, Resumed, begun_by, resumed_by}
 
-pub comes_quiet : {by : Option ℕ} {reads : Bool} (c : CoreState) (outcome : Outcome) → Comes by reads c outcome → Quiet c outcome.core
+pub comes_quiet : {by : Option ℕ} {reads ends : Bool} (c : CoreState) (outcome : Outcome) → Comes by reads ends c outcome → Quiet c outcome.core
 comes_quiet {by} c outcome comes = quiet_of c outcome.core (row_leaves by c outcome.core comes.walk.row)
 
 goes_quiet : (by : Option ℕ) (c : CoreState) (o : Option Outcome) (outcome : Outcome) → o ≡ Some outcome → GoesIf by c o → Quiet c outcome.core

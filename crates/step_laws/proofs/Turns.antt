@@ -33,7 +33,7 @@ pub record Resumed (c : CoreState) (thread start : ℕ) (outcome : Outcome) : Ty
   pub wait : Wait
   pub waited : found.activity ≡ activity.Waiting start wait
   pub inner : Outcome
-  pub comes : Comes (Some found.app) false c inner
+  pub comes : Comes (Some found.app) false true c inner
   pub ends : outcome ≡ resumed thread inner
 
 begun_inner : (c : CoreState) (thread start : ℕ) (asked : Call) (outcome : Outcome) (found : Thread) → slice_get c.threads thread ≡ Some found → found.activity ≡ activity.Running start

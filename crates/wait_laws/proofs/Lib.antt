@@ -1,4 +1,3 @@
-pub mod Calling
 pub mod ClientCalling
 pub mod ClientMarks
 pub mod Connections

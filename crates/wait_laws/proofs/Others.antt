@@ -4,21 +4,30 @@ use Rattle.std.specs.Option.{option_map}
 use Rattle.kernel_values.specs.declared.call.Call.{Call}
 use Rattle.kernel_values.specs.declared.entry.Event.{Event}
 use Rattle.kernel_values.specs.declared.entry.Event.TheVariants as event
+use Rattle.kernel_values.specs.declared.errno.Errno.TheVariants as errno
+use Rattle.kernel_values.specs.declared.reply.Answer.{Answer}
+use Rattle.kernel_values.specs.declared.reply.Answer.TheVariants as answer
 use Rattle.kernel_values.specs.declared.state.State.{State}
 use Rattle.kernel_types.specs.Clients.{Acted}
 use Rattle.kernel_types.specs.CoreStep.{core_begin, idle_answer}
 use Rattle.kernel_types.specs.Device.{DeviceStep, device_step}
 use Rattle.kernel_types.specs.Outcome.{Outcome}
 use Rattle.kernel_types.specs.Step.{Stepped, beside_core, client_begin, client_number, device_stepped, step, idle, idle_lawful, in_world, is_thread, next_deadline}
+use Rattle.step_laws.proofs.Outcomes.{is_begun}
+use Rattle.step_laws.proofs.Turns.{Begun, begun_by}
 use Rattle.wait_laws.specs.Cancelling.{is_cancelled, is_end_of_wait}
-use Rattle.wait_laws.proofs.Calling.{act_other}
 use Rattle.wait_laws.proofs.ClientCalling.{act_calls, calls_other}
-use Rattle.wait_laws.proofs.Turning.{Called, ClientCalled, called, client_called, mapped, only_if}
+use Rattle.wait_laws.proofs.Turning.{ClientCalled, client_called, mapped, only_if}
+
+begun_other : (said : Answer) → is_begun said ≡ true → is_cancelled said ≡ false
+begun_other (answer.Refuses errno.Cancelled) begins = absurd (cc)
+begun_other (answer.Refuses _) begins = refl
+begun_other _ begins = refl
 
 thread_other : (s : State) (k start : ℕ) (asked : Call) (outcome : Outcome) → core_begin s.core k start asked ≡ Some outcome → is_cancelled outcome.answer ≡ false
 thread_other s k start asked outcome is =
-    let b : Called s.core k start asked outcome = called s.core k start asked outcome is in
-    ap (λ (o : Outcome). is_cancelled o.answer) b.ends ∙ act_other s.core k b.found.app asked b.inner b.done
+    let b : Begun s.core k start asked outcome = begun_by s.core k start asked outcome is in
+    ap (λ (o : Outcome). is_cancelled o.answer) b.ends ∙ begun_other b.inner.answer b.acts.answers
 
 client_other : (s : State) (k start : ℕ) (asked : Call) (acted : Acted) → client_begin s k start asked ≡ Some acted → is_cancelled acted.answer ≡ false
 client_other s k start asked acted is =

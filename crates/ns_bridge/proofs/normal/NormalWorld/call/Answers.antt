@@ -2,7 +2,7 @@ use Rattle.std.proofs.Common.{◌≡◌, ℕ, true, List, length, Some, sym, ◌
 use Rattle.std.proofs.lemmas.List.{with_items_is}
 use Rattle.kernel_values.specs.declared.world.ClientActivity.TheVariants as activity
 use Rattle.kernel_values.specs.declared.world.ClientState.{ClientState}
-use Rattle.kernel_values.specs.CallKinds.{is_client_call}
+use Rattle.kernel_values.specs.Calls.{is_client_call}
 use Rattle.ns_bridge.specs.Acts.{Answered, activity_at, asked_of_driver}
 use Rattle.ns_bridge.specs.Parts.{parts}
 use Rattle.ns_bridge.specs.Waits.{IsKept}
