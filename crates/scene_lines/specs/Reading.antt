@@ -33,6 +33,7 @@ use Rattle.script_lines.specs.declared.words.PartWord.{PartWord}
 use Rattle.script_lines.specs.declared.words.PartWord.TheVariants as part
 use Rattle.script_lines.specs.declared.words.ScriptWord.{ScriptWord}
 use Rattle.script_lines.specs.declared.words.ScriptWord.TheVariants as script
+use Rattle.script_lines.specs.Gives.{◌>>=◌}
 use Rattle.script_lines.specs.Texts.{is_text_byte, words_of, is_skipped, after_two_words}
 use Rattle.script_lines.specs.Numbers.{number, number_within}
 use Rattle.script_lines.specs.LineWords.{line_word}

@@ -10,6 +10,7 @@ use Rattle.script_lines.specs.declared.fault.SceneKind.TheVariants.{BadWords}
 use Rattle.script_lines.specs.declared.registers.Registers.{Registers}
 use Rattle.script_lines.specs.declared.words.CallWord.{CallWord}
 use Rattle.script_lines.specs.declared.words.CallWord.TheVariants as word
+use Rattle.script_lines.specs.Gives.{◌>>=◌}
 use Rattle.script_lines.specs.Numbers.{number, cookie, number_within, mask, timeout_word, path_word, port_flags, connect_flags, mem_flags}
 use Rattle.script_lines.specs.Payloads.{bytes_word, most_bytes}
 use Rattle.script_lines.specs.Registers.{hand, as_one, as_some, parts}

@@ -9,6 +9,7 @@ use Rattle.script_lines.specs.declared.fault.SceneKind.TheVariants.{BadWords}
 use Rattle.script_lines.specs.declared.registers.Registers.{Registers}
 use Rattle.script_lines.specs.declared.words.ClientWord.{ClientWord}
 use Rattle.script_lines.specs.declared.words.ClientWord.TheVariants as word
+use Rattle.script_lines.specs.Gives.{◌>>=◌}
 use Rattle.script_lines.specs.Numbers.{number, timeout_word, path_word}
 use Rattle.script_lines.specs.Payloads.{bytes_word}
 use Rattle.script_lines.specs.Registers.{hand, as_one}
