@@ -35,8 +35,7 @@ use Rattle.kernel_values.specs.declared.state.Member.{Member}
 use Rattle.kernel_types.specs.Events.{chain_limit}
 use Rattle.kernel_types.specs.Sets.{chain_through, is_label_in, is_or_contains, member_limit, new_member, set_add, set_add_entries, set_add_member, set_add_to, set_create}
 use Rattle.step_laws.specs.Walks.{is_ending}
-use Rattle.step_laws.proofs.Calls.{ReportGoes, quiet_goes, report_goes}
-use Rattle.step_laws.proofs.Outcomes.{Comes}
+use Rattle.step_laws.proofs.Calls.{ComesIf, ReportGoes, quiet_goes, report_goes}
 use Rattle.step_laws.proofs.Leaving.{Quiet, quiet, quiet_of, row_leaves, starts_stay}
 use Rattle.step_laws.proofs.TurnLeaving.{comes_quiet}
 use Rattle.step_laws.proofs.Steps.{none_yet}
@@ -55,9 +54,6 @@ module _ (c : CoreState) (k : ℕ) (U : Upheld c k) where
 
   by_quiet : (o : Outcome) → IsFinal o.answer → Quiet c o.core → Upholds o
   by_quiet o final q = record { upheld = U.quiet o.answer o.core final q }
-
-  by_comes : {app : ℕ} {reads : Bool} (o : Outcome) → Comes (Some app) reads false c o → Upholds o
-  by_comes o comes = by_quiet o (answered_final false o.answer comes.answers) (comes_quiet c o comes)
 
   by_wait : (d : CoreState) (on : WaitOn) (deadline : Option ℕ) → Quiet c d → Upholds (waits_on k on deadline d)
   by_wait d on deadline q = record { upheld = U.waits d (new_wait on deadline) q }
@@ -152,6 +148,10 @@ module _ (c : CoreState) (k : ℕ) (U : Upheld c k) where
   UpholdsIf None = Unit {0}
   UpholdsIf (Some outcome) = Upholds outcome
 
+  by_comes : (app : ℕ) (asked : Call) (o : Option Outcome) → ComesIf app c asked o → UpholdsIf o
+  by_comes app asked None comes = tt
+  by_comes app asked (Some outcome) comes = by_quiet outcome (answered_final false outcome.answer comes.answers) (comes_quiet c outcome comes)
+
   up_act : (app : ℕ) (asked : Call) → is_ending asked ≡ false → UpholdsIf (act c k app asked)
   unfolding act
   up_act app (call.Connect path flags) goes = up_connect app path flags
@@ -161,14 +161,8 @@ module _ (c : CoreState) (k : ℕ) (U : Upheld c k) where
   up_act app (call.WaitAny timeout) goes = up_wait_any app timeout
   up_act app (call.Exit code) goes = absurd (cc)
   up_act app call.Finish goes = absurd (cc)
-  up_act app (call.NsConnect path) goes = tt
-  up_act app (call.NsSend conn bytes) goes = tt
-  up_act app (call.NsRecv conn timeout) goes = tt
-  up_act app (call.NsClose conn) goes = tt
-  up_act app (call.NsPoke addr bytes) goes = tt
-  up_act app (call.NsKick queue head) goes = tt
-  -- the others change tables and objects alone
-  up_act app asked goes = by_comes _ (quiet_goes app c k c (none_yet (Some app) c) asked)
+  -- the others change tables and objects alone, and clients make no call here
+  up_act app asked goes = by_comes app asked (act c k app asked) (quiet_goes app c k c (none_yet (Some app) c) asked refl)
 
   upheld_by : (o : Option Outcome) (outcome : Outcome) → o ≡ Some outcome → UpholdsIf o → U.holds outcome.answer outcome.core
   upheld_by None outcome is u = absurd (cc)

@@ -5,7 +5,6 @@ use Rattle.std.specs.Prelude.{slice_get}
 use Rattle.std.specs.Option.{option_map}
 use Rattle.kernel_values.specs.SceneLaw.{SceneValue}
 use Rattle.kernel_values.specs.declared.call.Call.{Call}
-use Rattle.kernel_values.specs.declared.call.Call.TheVariants as call
 use Rattle.kernel_values.specs.declared.entry.ActorStatus.{ActorStatus}
 use Rattle.kernel_values.specs.declared.entry.ActorStatus.TheVariants as status
 use Rattle.kernel_values.specs.declared.entry.Entry.{Entry}
@@ -13,7 +12,6 @@ use Rattle.kernel_values.specs.declared.entry.Event.{Event}
 use Rattle.kernel_values.specs.declared.entry.Event.TheVariants as event
 use Rattle.kernel_values.specs.declared.state.Activity.{Activity}
 use Rattle.kernel_values.specs.declared.state.Activity.TheVariants as activity
-use Rattle.kernel_values.specs.declared.state.CoreState.{CoreState}
 use Rattle.kernel_values.specs.declared.state.State.{State}
 use Rattle.kernel_values.specs.declared.state.Thread.{Thread}
 use Rattle.kernel_values.specs.declared.state.Wait.{Wait}
@@ -21,7 +19,6 @@ use Rattle.kernel_values.specs.declared.world.ClientActivity.{ClientActivity}
 use Rattle.kernel_values.specs.declared.world.ClientActivity.TheVariants as client_activity
 use Rattle.kernel_values.specs.declared.world.ClientState.{ClientState}
 use Rattle.kernel_values.specs.declared.world.ClientWait.{ClientWait}
-use Rattle.kernel_values.specs.declared.world.World.{World}
 use Rattle.kernel_types.proofs.Actors.{begin_is_of_running, resume_is_of_waiting, status_of_client, status_of_thread, thread_is_thread}
 use Rattle.kernel_types.specs.Clients.{Acted, end_of_ns_wait, ns_act}
 use Rattle.kernel_types.specs.CoreStep.{act, core_begin, core_resume, resumed, status_of, swept}
@@ -35,7 +32,7 @@ use Rattle.kernel_types.specs.Step.{Stepped, begin, beside_core, client_begin, c
 use Rattle.kernel_types.specs.Waits.{end_of_wait}
 use Rattle.kernel_laws.proofs.Histories.{begins}
 use Rattle.run_laws.specs.Answered.{HasAnswers, IsFrom, Open}
-use Rattle.kernel_values.specs.Calls.{is_of_client, is_of_thread}
+use Rattle.run_laws.proofs.Callers.{has_client_body, has_thread_body}
 use Rattle.run_laws.proofs.ClientSteps.{behind, end_same, is_no_thread}
 use Rattle.run_laws.proofs.Counted.{Counts, answers_at, counted, counted_opened, counts_at, counts_call, counts_end}
 use Rattle.run_laws.proofs.Everyone.{Actor, Everyone, Stepping, actor_of, client_begins, client_resumes, device_turns, idles, thread_begins, thread_resumes}
@@ -53,27 +50,6 @@ mapped f (Some x) y h = (x, refl, let same : y ≡ f x = cc in same)
 only_if : {X : Type 0} (b : Bool) (o : Option X) (x : X) → cond b o None ≡ Some x → (b ≡ true) × (o ≡ Some x)
 only_if true o x h = (refl, h)
 only_if false o x h = absurd (cc)
-
-thread_kind : (c : CoreState) (k app : ℕ) (asked : Call) (outcome : Outcome) → act c k app asked ≡ Some outcome → is_of_thread asked ≡ true
-unfolding act
-thread_kind c k app (call.NsConnect path) outcome is = absurd (cc)
-thread_kind c k app (call.NsSend conn bytes) outcome is = absurd (cc)
-thread_kind c k app (call.NsRecv conn timeout) outcome is = absurd (cc)
-thread_kind c k app (call.NsClose conn) outcome is = absurd (cc)
-thread_kind c k app (call.NsPoke addr bytes) outcome is = absurd (cc)
-thread_kind c k app (call.NsKick queue head) outcome is = absurd (cc)
-thread_kind c k app _ outcome is = refl
-
-client_kind : (clock k : ℕ) (asked : Call) (w : World) (acted : Acted) → ns_act clock k asked w ≡ Some acted → is_of_client asked ≡ true
-unfolding ns_act
-client_kind clock k (call.NsConnect path) w acted is = refl
-client_kind clock k (call.NsSend conn bytes) w acted is = refl
-client_kind clock k (call.NsRecv conn timeout) w acted is = refl
-client_kind clock k (call.NsClose conn) w acted is = refl
-client_kind clock k call.Finish w acted is = refl
-client_kind clock k (call.NsPoke addr bytes) w acted is = refl
-client_kind clock k (call.NsKick queue head) w acted is = refl
-client_kind clock k _ w acted is = absurd (cc)
 
 begun : (s : State) (k start : ℕ) (asked : Call) (r : Stepped) → step s (event.Begin (record { 0 = k }) start asked) ≡ Some r → begin s k start asked ≡ Some r
 unfolding step
@@ -145,7 +121,7 @@ module _ (from : ℕ → ℕ) (entries : List Entry) (s : State) (old : Everyone
       mapped (in_world s.world) (option_map swept (act s.core k thread.app asked)) r (sym (thread_begun s k start asked thread thread_is activity_is) ∙ is) in
       let inner : (o : Outcome) × (act s.core k thread.app asked ≡ Some o) × (out.0 ≡ swept o) = mapped swept (act s.core k thread.app asked) out.0 out.1 in
       kept (event.Begin (record { 0 = k }) start asked) r (in_world s.world (swept inner.0)) (out.2 ∙ ap (λ o. in_world s.world o) inner.2)
-      (thread_begins (counted from) entries s old k start thread asked inner.0 thread_is activity_is (thread_kind s.core k thread.app asked inner.0 inner.1)
+      (thread_begins (counted from) entries s old k start thread asked inner.0 thread_is activity_is (has_thread_body s.core k thread.app asked inner.0 inner.1)
       (λ goes. counts_call from entries k start asked counts.0 counts.1) inner.1)
   begin_by k start asked r is (is_client j client k_is client_is status_is) =
       let runs : status_at s k ≡ Some (status.Running start) = begin_is_of_running s k start asked r is in
@@ -157,7 +133,7 @@ module _ (from : ℕ → ℕ) (entries : List Entry) (s : State) (old : Everyone
       (sym (client_begun s j start asked client client_is activity_is) ∙ subst (λ n. begin s n start asked ≡ Some r) k_is is) in
       subst (λ n. KeepsEveryone (event.Begin (record { 0 = n }) start asked) r) (sym k_is)
       (kept (event.Begin (record { 0 = length s.core.threads + j }) start asked) r (beside_core s.core out.0) out.2
-      (client_begins (counted from) entries s old j start client asked out.0 client_is activity_is (client_kind s.core.clock j asked s.world out.0 out.1)
+      (client_begins (counted from) entries s old j start client asked out.0 client_is activity_is (has_client_body s.core.clock j asked s.world out.0 out.1)
       (λ goes. counts_call from entries (length s.core.threads + j) start asked counts.0 counts.1) out.1))
   begin_by k start asked r is (is_none status_is) = let runs : status_at s k ≡ Some (status.Running start) = begin_is_of_running s k start asked r is in absurd (cc)
 

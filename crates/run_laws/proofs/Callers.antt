@@ -1,13 +1,17 @@
 -- The calls that threads make, those that clients make, and `finish` with both; the kernel has a body for each.
-use Rattle.std.proofs.Common.{◌≡◌, ℕ, Bool, true, refl}
+use Rattle.std.proofs.Common.{◌≡◌, ℕ, Bool, true, Option, Some, refl, sym, ap, ◌∙◌}
 use Rattle.std.specs.Option.{is_some}
-use Rattle.kernel_values.specs.Calls.{is_client_call, is_of_client, is_of_thread, is_thread_call, with_number}
+use Rattle.kernel_values.specs.Calls.{is_client_call, is_kind_in_client, is_kind_in_thread, is_kind_of_client, is_kind_of_thread, is_of_client, is_of_thread, is_thread_call, kind_of, with_number}
 use Rattle.kernel_values.specs.declared.call.Call.{Call}
 use Rattle.kernel_values.specs.declared.call.Call.TheVariants as call
+use Rattle.kernel_values.specs.declared.call.CallKind.{CallKind}
+use Rattle.kernel_values.specs.declared.call.CallKind.TheVariants as kind
 use Rattle.kernel_values.specs.declared.state.CoreState.{CoreState}
 use Rattle.kernel_values.specs.declared.world.World.{World}
-use Rattle.kernel_types.specs.Clients.{ns_act}
+use Rattle.kernel_types.specs.Clients.{Acted, ns_act}
 use Rattle.kernel_types.specs.CoreStep.{act}
+use Rattle.kernel_types.specs.Outcome.{Outcome}
+use Rattle.step_laws.proofs.Bodies.{client_kind, thread_kind}
 
 -- calls of one kind: a register changes no call's kind, and `finish` is of it
 pub record IsKind (of_kind : Call → Bool) : Type 0 where
@@ -30,44 +34,30 @@ of_client = record { finish = refl; stays = client_stays }
 
 -- what a scene's scripts may hold
 
+by_kind_of_thread : (of : CallKind) → is_kind_in_thread of ≡ true → is_kind_of_thread of ≡ true
+by_kind_of_thread kind.Thread h = refl
+by_kind_of_thread _ h = absurd (cc)
+
+by_kind_of_client : (of : CallKind) → is_kind_in_client of ≡ true → is_kind_of_client of ≡ true
+by_kind_of_client kind.Thread h = absurd (cc)
+by_kind_of_client _ h = refl
+
 pub by_thread : (asked : Call) → is_thread_call asked ≡ true → is_of_thread asked ≡ true
-by_thread call.Finish h = absurd (cc)
-by_thread (call.NsConnect path) h = absurd (cc)
-by_thread (call.NsSend conn bytes) h = absurd (cc)
-by_thread (call.NsRecv conn timeout) h = absurd (cc)
-by_thread (call.NsClose conn) h = absurd (cc)
-by_thread (call.NsPoke addr bytes) h = absurd (cc)
-by_thread (call.NsKick queue head) h = absurd (cc)
-by_thread _ h = refl
+by_thread asked h = by_kind_of_thread (kind_of asked) h
 
 pub by_client : (asked : Call) → is_client_call asked ≡ true → is_of_client asked ≡ true
-by_client (call.NsConnect path) h = refl
-by_client (call.NsSend conn bytes) h = refl
-by_client (call.NsRecv conn timeout) h = refl
-by_client (call.NsClose conn) h = refl
-by_client (call.NsPoke addr bytes) h = refl
-by_client (call.NsKick queue head) h = refl
-by_client _ h = absurd (cc)
+by_client asked h = by_kind_of_client (kind_of asked) h
 
 -- the kernel has a body for each
 
 pub thread_body : (c : CoreState) (thread app : ℕ) (asked : Call) → is_of_thread asked ≡ true → is_some (act c thread app asked) ≡ true
-unfolding act
-thread_body c thread app (call.NsConnect path) h = absurd (cc)
-thread_body c thread app (call.NsSend conn bytes) h = absurd (cc)
-thread_body c thread app (call.NsRecv conn timeout) h = absurd (cc)
-thread_body c thread app (call.NsClose conn) h = absurd (cc)
-thread_body c thread app (call.NsPoke addr bytes) h = absurd (cc)
-thread_body c thread app (call.NsKick queue head) h = absurd (cc)
-thread_body c thread app _ h = refl
+thread_body c thread app asked h = thread_kind c thread app asked ∙ h
 
 pub client_body : (clock client : ℕ) (w : World) (asked : Call) → is_of_client asked ≡ true → is_some (ns_act clock client asked w) ≡ true
-unfolding ns_act
-client_body clock client w (call.NsConnect path) h = refl
-client_body clock client w (call.NsSend conn bytes) h = refl
-client_body clock client w (call.NsRecv conn timeout) h = refl
-client_body clock client w (call.NsClose conn) h = refl
-client_body clock client w (call.NsPoke addr bytes) h = refl
-client_body clock client w (call.NsKick queue head) h = refl
-client_body clock client w call.Finish h = refl
-client_body clock client w _ h = absurd (cc)
+client_body clock client w asked h = client_kind clock client asked w ∙ h
+
+pub has_thread_body : (c : CoreState) (thread app : ℕ) (asked : Call) (outcome : Outcome) → act c thread app asked ≡ Some outcome → is_of_thread asked ≡ true
+has_thread_body c thread app asked outcome is = sym (thread_kind c thread app asked) ∙ ap (λ (o : Option Outcome). is_some o) is
+
+pub has_client_body : (clock client : ℕ) (asked : Call) (w : World) (acted : Acted) → ns_act clock client asked w ≡ Some acted → is_of_client asked ≡ true
+has_client_body clock client asked w acted is = sym (client_kind clock client asked w) ∙ ap (λ (o : Option Acted). is_some o) is

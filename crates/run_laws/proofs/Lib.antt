@@ -3,6 +3,7 @@ pub mod Answering
 pub mod Bridging
 pub mod Callers
 pub mod Calling
+pub mod ClientCalling
 pub mod ClientPlaces
 pub mod ClientSteps
 pub mod Counted

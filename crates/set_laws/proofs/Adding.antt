@@ -23,17 +23,9 @@ use Rattle.kernel_types.proofs.Reaching.{marked_is_reached}
 use Rattle.kernel_laws.proofs.Found.{found, found_changed, found_is}
 use Rattle.set_laws.specs.Chains.{ChainFrom, HasMember, HasShortChains, IsSet}
 use Rattle.set_laws.proofs.Counting.{Climb, among_first, among_later, counted_above, counted_below, first_or_later, joined}
+use Rattle.set_laws.proofs.Joined.{among_left, among_right}
 
 -- What the memberships name.
-
-among_left : (name : Name) (xs ys : List Name) → Among name xs → Among name (xs ++ ys)
-among_left name [] ys among = absurd among
-among_left name (x ∷ xs) ys (inl same) = inl same
-among_left name (x ∷ xs) ys (inr more) = inr (among_left name xs ys more)
-
-among_right : (name : Name) (xs ys : List Name) → Among name ys → Among name (xs ++ ys)
-among_right name [] ys among = among
-among_right name (x ∷ xs) ys among = inr (among_right name xs ys among)
 
 named : (holder : ℕ) (xs : List ℕ) (b : ℕ) → is_in xs b ≡ true → Among (held_by holder b) (map (held_by holder) xs)
 named holder [] b is = absurd (cc)

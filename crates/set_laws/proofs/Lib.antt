@@ -6,6 +6,7 @@ pub mod Deepening
 pub mod Circles
 pub mod Looking
 pub mod Lists
+pub mod Joined
 pub mod Known
 pub mod KnownChanges
 pub mod Naming

@@ -43,10 +43,10 @@ use Rattle.step_laws.specs.Walks.Awaits.{for_any, for_connect, for_object}
 use Rattle.step_laws.specs.Walks.Row.{goes_on, stays}
 use Rattle.step_laws.specs.Walks.ThreadChange.{app_over, app_started, member_added, set_made, thread_over, wait_begun}
 use Rattle.step_laws.proofs.Leaving.{row_leaves}
-use Rattle.step_laws.proofs.Outcomes.{Acts, Comes, Said, is_answered, is_begun, may_list}
+use Rattle.step_laws.proofs.Outcomes.{Acts, Said, is_answered, is_begun, may_list}
 use Rattle.step_laws.proofs.Outcomes.Said.{says_no_list}
 use Rattle.step_laws.proofs.There.{app_pair_made, client_made_so}
-use Rattle.step_laws.proofs.Calls.{ReportGoes, more, not_false, quiet_goes, report_goes}
+use Rattle.step_laws.proofs.Calls.{ComesIf, ReportGoes, more, not_false, quiet_goes, report_goes}
 
 -- Calls that wait, start or end something.
 
@@ -202,8 +202,9 @@ module _ (app thread : ℕ) (s : CoreState) (who : (b : CoreState) → b.threads
       elim (list_all (is_elsewhere_or_over app) d.threads) as (λ b. R (cond b (application_ended app d) d)) [ true ↦ goes_on (application_ended app d) d less (app_over refl) refl | false ↦ less ] in
       record { middle = c; walk = k; changes = last; says = says_no_list refl; answers = refl }
 
-  quietly : {asked : Call} (o : Outcome) → Comes (Some app) (may_list asked) false s o → Does asked o
-  quietly o comes = at_once o comes.walk comes.says (begun_by o.answer comes.answers)
+  quietly : (asked : Call) (o : Option Outcome) → ComesIf app s asked o → DoesIf app thread s asked o
+  quietly asked None comes = tt
+  quietly asked (Some outcome) comes = at_once outcome comes.walk comes.says (begun_by outcome.answer comes.answers)
 
   pub act_goes : (c : CoreState) → SmallWalk (Some app) s [] c → (asked : Call) → DoesIf app thread s asked (act c thread app asked)
   unfolding act
@@ -214,11 +215,5 @@ module _ (app thread : ℕ) (s : CoreState) (who : (b : CoreState) → b.threads
   act_goes c k (call.WaitAny timeout) = wait_any_goes c k timeout
   act_goes c k (call.Exit code) = exit_goes c k code
   act_goes c k call.Finish = finish_goes c k
-  act_goes c k (call.NsConnect path) = tt
-  act_goes c k (call.NsSend conn bytes) = tt
-  act_goes c k (call.NsRecv conn timeout) = tt
-  act_goes c k (call.NsClose conn) = tt
-  act_goes c k (call.NsPoke addr bytes) = tt
-  act_goes c k (call.NsKick queue head) = tt
-  -- the others change tables and objects alone
-  act_goes c k asked = quietly _ (quiet_goes app s thread c k asked)
+  -- the others change tables and objects alone, and clients make no call here
+  act_goes c k asked = quietly asked (act c thread app asked) (quiet_goes app s thread c k asked refl)

@@ -161,17 +161,20 @@ module _ (by : Option ℕ) (s : CoreState) where
   put_from_told seq c k id number None is = k
   put_from_told seq c k id number (Some end) is = put_message_told seq c k id end number is (find (is_opened_as number) end.messages) refl
 
--- what a call comes to that changes tables and objects alone; nothing is said here of those that make, wait, start or end something
-abbrev pub QuietIf : (app : ℕ) (s : CoreState) → Call → Option Outcome → Type 0
-QuietIf app s (call.Connect path flags) o = Unit {0}
-QuietIf app s call.SetCreate o = Unit {0}
-QuietIf app s (call.SetAdd held handle mask cookie) o = Unit {0}
-QuietIf app s (call.Wait handle timeout) o = Unit {0}
-QuietIf app s (call.WaitAny timeout) o = Unit {0}
-QuietIf app s (call.Exit code) o = Unit {0}
-QuietIf app s call.Finish o = Unit {0}
-QuietIf app s asked None = Unit {0}
-QuietIf app s asked (Some outcome) = Comes (Some app) (may_list asked) false s outcome
+-- whether a call changes tables and objects alone: it makes no set, adds no member, and neither waits, starts nor ends
+abbrev pub is_quiet : Call → Bool
+is_quiet (call.Connect path flags) = false
+is_quiet call.SetCreate = false
+is_quiet (call.SetAdd held handle mask cookie) = false
+is_quiet (call.Wait handle timeout) = false
+is_quiet (call.WaitAny timeout) = false
+is_quiet (call.Exit code) = false
+is_quiet call.Finish = false
+is_quiet _ = true
+
+abbrev pub ComesIf : (app : ℕ) (s : CoreState) → Call → Option Outcome → Type 0
+ComesIf app s asked None = Unit {0}
+ComesIf app s asked (Some outcome) = Comes (Some app) (may_list asked) false s outcome
 
 -- For an application.
 
@@ -379,23 +382,31 @@ module _ (app : ℕ) (s : CoreState) where
 
   -- All of these calls.
 
-  pub quiet_goes : (thread : ℕ) (c : CoreState) → Now (Some app) s c → (asked : Call) → QuietIf app s asked (act c thread app asked)
+  pub quiet_goes : (thread : ℕ) (c : CoreState) → Now (Some app) s c → (asked : Call) → is_quiet asked ≡ true → ComesIf app s asked (act c thread app asked)
   unfolding act
-  quiet_goes thread c k (call.PortCreate path bufs size flags) = port_goes c k path bufs size flags
-  quiet_goes thread c k (call.Accept port) = accept_goes c k port
-  quiet_goes thread c k (call.Send chan bytes parts) = send_goes c k chan bytes parts
-  quiet_goes thread c k (call.Get chan) = get_goes c k chan
-  quiet_goes thread c k (call.Read chan id offset room parts) = read_goes c k chan id offset room parts
-  quiet_goes thread c k (call.Put chan id) = put_goes c k chan id
-  quiet_goes thread c k (call.SetCookie handle cookie) = cookie_goes c k handle cookie
-  quiet_goes thread c k (call.Close handle) = close_goes c k handle
-  quiet_goes thread c k (call.Dup handle) = dup_goes c k handle
-  quiet_goes thread c k (call.SetDel set label) = del_goes c k set label
-  quiet_goes thread c k (call.SetMod set label mask cookie) = mod_goes c k set label mask cookie
-  quiet_goes thread c k (call.MemCreate size flags) = memref_goes c k size flags
-  quiet_goes thread c k (call.MemRead handle offset len) = mread_goes c k handle offset len
-  quiet_goes thread c k (call.MemWrite handle offset bytes) = mwrite_goes c k handle offset bytes
-  quiet_goes thread c k other = tt
+  quiet_goes thread c k (call.PortCreate path bufs size flags) quiet = port_goes c k path bufs size flags
+  quiet_goes thread c k (call.Accept port) quiet = accept_goes c k port
+  quiet_goes thread c k (call.Send chan bytes parts) quiet = send_goes c k chan bytes parts
+  quiet_goes thread c k (call.Get chan) quiet = get_goes c k chan
+  quiet_goes thread c k (call.Read chan id offset room parts) quiet = read_goes c k chan id offset room parts
+  quiet_goes thread c k (call.Put chan id) quiet = put_goes c k chan id
+  quiet_goes thread c k (call.SetCookie handle cookie) quiet = cookie_goes c k handle cookie
+  quiet_goes thread c k (call.Close handle) quiet = close_goes c k handle
+  quiet_goes thread c k (call.Dup handle) quiet = dup_goes c k handle
+  quiet_goes thread c k (call.SetDel set label) quiet = del_goes c k set label
+  quiet_goes thread c k (call.SetMod set label mask cookie) quiet = mod_goes c k set label mask cookie
+  quiet_goes thread c k (call.MemCreate size flags) quiet = memref_goes c k size flags
+  quiet_goes thread c k (call.MemRead handle offset len) quiet = mread_goes c k handle offset len
+  quiet_goes thread c k (call.MemWrite handle offset bytes) quiet = mwrite_goes c k handle offset bytes
+  quiet_goes thread c k (call.Connect path flags) quiet = absurd (cc)
+  quiet_goes thread c k call.SetCreate quiet = absurd (cc)
+  quiet_goes thread c k (call.SetAdd held handle mask cookie) quiet = absurd (cc)
+  quiet_goes thread c k (call.Wait handle timeout) quiet = absurd (cc)
+  quiet_goes thread c k (call.WaitAny timeout) quiet = absurd (cc)
+  quiet_goes thread c k (call.Exit code) quiet = absurd (cc)
+  quiet_goes thread c k call.Finish quiet = absurd (cc)
+  -- clients' calls
+  quiet_goes thread c k other quiet = tt
 
   -- Waits.
 

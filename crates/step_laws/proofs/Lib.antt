@@ -4,6 +4,7 @@ pub mod Rows
 pub mod Leaving
 pub mod Outcomes
 pub mod Calls
+pub mod Bodies
 pub mod Acting
 pub mod Steps
 pub mod Invariants

@@ -26,8 +26,8 @@ use Rattle.step_laws.proofs.Bridged.{DeviceKeeps, DeviceKeepsIf, any_change, dev
 use Rattle.run_laws.proofs.ClientSteps.{end_same, is_no_thread}
 use Rattle.run_laws.proofs.Longer.{entry_with}
 use Rattle.run_laws.proofs.Places.{map_at_get, map_get}
-use Rattle.wait_laws.proofs.ClientCalling.{Calls, act_calls}
-use Rattle.wait_laws.proofs.ClientCalling.Calls.{over, stays, waits}
+use Rattle.run_laws.proofs.ClientCalling.{Calls, act_calls}
+use Rattle.run_laws.proofs.ClientCalling.Calls.{over, stays, waits}
 use Rattle.wait_laws.proofs.Marking.{Marked, began_marked, cancelling, differ, silent}
 use Rattle.wait_laws.proofs.Turning.{ClientCalled, ClientWoken, client_called, client_woken, mapped, only_if}
 

@@ -1,4 +1,3 @@
-pub mod ClientCalling
 pub mod ClientMarks
 pub mod Connections
 pub mod Denied

@@ -8,26 +8,37 @@ use Rattle.kernel_values.specs.declared.errno.Errno.TheVariants as errno
 use Rattle.kernel_values.specs.declared.reply.Answer.{Answer}
 use Rattle.kernel_values.specs.declared.reply.Answer.TheVariants as answer
 use Rattle.kernel_values.specs.declared.state.State.{State}
+use Rattle.kernel_values.specs.declared.world.World.{World}
 use Rattle.kernel_types.specs.Clients.{Acted}
 use Rattle.kernel_types.specs.CoreStep.{core_begin, idle_answer}
 use Rattle.kernel_types.specs.Device.{DeviceStep, device_step}
 use Rattle.kernel_types.specs.Outcome.{Outcome}
 use Rattle.kernel_types.specs.Step.{Stepped, beside_core, client_begin, client_number, device_stepped, step, idle, idle_lawful, in_world, is_thread, next_deadline}
-use Rattle.step_laws.proofs.Outcomes.{is_begun}
+use Rattle.step_laws.proofs.Outcomes.{is_answered, is_begun}
 use Rattle.step_laws.proofs.Turns.{Begun, begun_by}
 use Rattle.wait_laws.specs.Cancelling.{is_cancelled, is_end_of_wait}
-use Rattle.wait_laws.proofs.ClientCalling.{act_calls, calls_other}
+use Rattle.run_laws.proofs.ClientCalling.{Calls, act_calls}
+use Rattle.run_laws.proofs.ClientCalling.Calls.{over, stays, waits}
 use Rattle.wait_laws.proofs.Turning.{ClientCalled, client_called, mapped, only_if}
 
+answered_other : (said : Answer) → is_answered false said ≡ true → is_cancelled said ≡ false
+answered_other (answer.Refuses errno.Cancelled) answers = absurd (cc)
+answered_other (answer.Refuses _) answers = refl
+answered_other _ answers = refl
+
 begun_other : (said : Answer) → is_begun said ≡ true → is_cancelled said ≡ false
-begun_other (answer.Refuses errno.Cancelled) begins = absurd (cc)
-begun_other (answer.Refuses _) begins = refl
-begun_other _ begins = refl
+begun_other answer.Waits begins = refl
+begun_other said begins = answered_other said begins
 
 thread_other : (s : State) (k start : ℕ) (asked : Call) (outcome : Outcome) → core_begin s.core k start asked ≡ Some outcome → is_cancelled outcome.answer ≡ false
 thread_other s k start asked outcome is =
     let b : Begun s.core k start asked outcome = begun_by s.core k start asked outcome is in
     ap (λ (o : Outcome). is_cancelled o.answer) b.ends ∙ begun_other b.inner.answer b.acts.answers
+
+calls_other : (k : ℕ) (w : World) (acted : Acted) → Calls k w acted → is_cancelled acted.answer ≡ false
+calls_other k w acted (stays is answers) = answered_other acted.answer answers
+calls_other k w acted (waits wait unmarked is said) = ap is_cancelled said
+calls_other k w acted (over is answers) = answered_other acted.answer answers
 
 client_other : (s : State) (k start : ℕ) (asked : Call) (acted : Acted) → client_begin s k start asked ≡ Some acted → is_cancelled acted.answer ≡ false
 client_other s k start asked acted is =

@@ -1,5 +1,5 @@
--- No call of a client answers CANCELLED; and after it the clients are as before, but for the one that calls, which may end, or wait and
--- is not cancelled then.
+-- A call of a client gives or refuses, and never with CANCELLED, or its wait begins; and after it the clients are as before, but for the one
+-- that calls, which may end, or wait and is not cancelled then.
 use Rattle.std.proofs.Common.{◌≡◌, ℕ, Bool, true, false, cond, List, [], ◌∷◌, ◌+◌, ◌||◌, Option, Some, None, length, min, not, refl, ap, ◌∙◌, subst}
 use Rattle.std.specs.Prelude.{nat_lt}
 use Rattle.kernel_values.specs.Words.{is_path}
@@ -20,12 +20,12 @@ use Rattle.kernel_types.specs.GuestMemory.{memory_size}
 use Rattle.kernel_types.specs.Objects.{map_at}
 use Rattle.kernel_types.specs.Sending.{frame, leave_frame, request_frame}
 use Rattle.kernel_types.specs.Waits.{deadline_of, is_zero_timeout}
-use Rattle.wait_laws.specs.Cancelling.{is_cancelled}
+use Rattle.step_laws.proofs.Outcomes.{is_answered}
 
 pub data Calls (k : ℕ) (w : World) (acted : Acted) : Type 0 where
-  stays : acted.world.clients ≡ w.clients → is_cancelled acted.answer ≡ false → Calls k w acted
+  stays : acted.world.clients ≡ w.clients → is_answered false acted.answer ≡ true → Calls k w acted
   waits : (wait : ClientWait) → wait.cancelled ≡ false → acted.world.clients ≡ map_at (client_changed (client_waiting wait)) w.clients k → acted.answer ≡ answer.Waits → Calls k w acted
-  over : acted.world.clients ≡ map_at (client_changed client_ended) w.clients k → is_cancelled acted.answer ≡ false → Calls k w acted
+  over : acted.world.clients ≡ map_at (client_changed client_ended) w.clients k → is_answered false acted.answer ≡ true → Calls k w acted
 
 from_same : (k : ℕ) (u w : World) (acted : Acted) → u.clients ≡ w.clients → Calls k u acted → Calls k w acted
 from_same k u w acted same (stays is other) = stays (is ∙ same) other
@@ -139,8 +139,3 @@ act_calls_if k clock w _ = tt
 
 pub act_calls : (k clock : ℕ) (w : World) (asked : Call) (acted : Acted) → ns_act clock k asked w ≡ Some acted → Calls k w acted
 act_calls k clock w asked acted is = subst (λ (o : Option Acted). CallsIf k w o) is (act_calls_if k clock w asked)
-
-pub calls_other : (k : ℕ) (w : World) (acted : Acted) → Calls k w acted → is_cancelled acted.answer ≡ false
-calls_other k w acted (stays is other) = other
-calls_other k w acted (waits wait unmarked is answer_is) = ap is_cancelled answer_is
-calls_other k w acted (over is other) = other
