@@ -1,5 +1,5 @@
 -- Who names a number: a table or a wait, the bridge, or an object; and who does so still where an object is dropped.
-use Rattle.std.proofs.Common.{◌≡◌, ℕ, ◌<◌, ◌==◌, ◌&&◌, ◌||◌, ◌⊎◌, inl, inr, Bool, true, false, List, [], ◌∷◌, ◌++◌, map, Option, Some, None, refl, ap, subst, arith, tests}
+use Rattle.std.proofs.Common.{◌≡◌, ℕ, ◌<◌, ◌==◌, ◌&&◌, ◌||◌, inl, inr, Bool, true, false, List, [], ◌∷◌, ◌++◌, map, Option, Some, None, refl, ap, subst, arith, tests}
 use Rattle.std.specs.List.{AllByRecursion, filter, flat_map}
 use Rattle.std.proofs.lemmas.Map.Views.{any-filter_same}
 use Rattle.kernel_values.specs.declared.state.CoreState.{CoreState}
@@ -7,6 +7,7 @@ use Rattle.kernel_values.specs.declared.state.Object.{Object}
 use Rattle.kernel_types.specs.Names.{Name, held_by, named_in, names_of, naming, root, table_names, wait_names}
 use Rattle.kernel_types.specs.Reach.{Among, is_in}
 use Rattle.set_laws.proofs.Known.{Known, together}
+use Rattle.set_laws.proofs.Joined.{among_left, among_right, among_split}
 use Rattle.count_laws.specs.Thinning.{In}
 use Rattle.count_laws.proofs.Holding.{Holding, counted_in, held_in as holding_in, holds, in_root, root_in, roots, someone}
 use Rattle.break_laws.specs.Held.{HeldAre}
@@ -22,20 +23,6 @@ both_of true false is = absurd (cc)
 both_of false b is = absurd (cc)
 
 -- The names of tables and waits.
-
-among_left : (n : Name) (xs ys : List Name) → Among n xs → Among n (xs ++ ys)
-among_left n [] ys h = absurd h
-among_left n (x ∷ xs) ys (inl e) = inl e
-among_left n (x ∷ xs) ys (inr h) = inr (among_left n xs ys h)
-
-among_right : (n : Name) (xs ys : List Name) → Among n ys → Among n (xs ++ ys)
-among_right n [] ys h = h
-among_right n (x ∷ xs) ys h = inr (among_right n xs ys h)
-
-among_split : (n : Name) (xs ys : List Name) → Among n (xs ++ ys) → Among n xs ⊎ Among n ys
-among_split n [] ys h = inr h
-among_split n (x ∷ xs) ys (inl e) = inl (inl e)
-among_split n (x ∷ xs) ys (inr h) = elim (among_split n xs ys h) [ inl a ↦ inl (inr a) | inr b ↦ inr b ]
 
 among_bridged : (xs : List ℕ) (n : ℕ) → Among (root n) (map root xs) → is_in xs n ≡ true
 among_bridged [] n h = absurd h

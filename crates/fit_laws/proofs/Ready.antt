@@ -75,7 +75,7 @@ pub record IsWell (c : CoreState) : Type 0 where
 
 held_below : (c : CoreState) → FittingCore c → NamedThere c → (app handle : ℕ) (entry : TableEntry) → entry_at (table_of c app) handle ≡ Some entry → entry.object < c.next
 held_below c fits there app handle entry held =
-    let known : IfThere (λ (e : TableEntry). There c.objects e.object) (entry_at (table_of c app) handle) = entry_known (There c.objects) c (apart_there c there) app handle in
+    let known : IfThere (λ (e : TableEntry). There c.objects e.object) (entry_at (table_of c app) handle) = entry_known (There c.objects) (There c.objects) c (apart_there c there) app handle in
     there_below 0 c.objects c.next entry.object fits.rises (subst (λ o. IfThere (λ (e : TableEntry). There c.objects e.object) o) held known)
 
 call_deep : (app thread : ℕ) (asked : Call) (said : Answer) (c : CoreState) → IsWell c → (change : ThreadChange app thread asked said c) → Deep (after_thread app thread asked said c change)

@@ -212,7 +212,7 @@ swept_there c there object some = (swept_iff c object).1 (there object (swept_na
 
 pub resumed_there : (thread : ℕ) (c : CoreState) → NamedThere c → NamedThere (with_activity running_activity thread c)
 resumed_there thread c there =
-    together_there c (with_activity running_activity thread c) refl (acted (There c.objects) c (apart_there c there) running_activity (running_known (There c.objects)) thread)
+    together_there c (with_activity running_activity thread c) refl (acted (There c.objects) (There c.objects) c (apart_there c there) running_activity (running_known (There c.objects)) thread)
 
 pub served_there : (place : ℕ) (c : CoreState) → NamedThere c → NamedThere (started place c)
 served_there place c there = together_there c (started place c) (same_started place c).0 (started_known (There c.objects) place c (apart_there c there))

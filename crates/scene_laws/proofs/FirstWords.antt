@@ -16,9 +16,10 @@ use Rattle.script_lines.specs.declared.words.PartWord.{PartWord}
 use Rattle.script_lines.specs.declared.words.ScriptWord.{ScriptWord}
 use Rattle.script_lines.specs.declared.words.ScriptWord.TheVariants as script
 use Rattle.script_lines.specs.Gives.{◌>>=◌}
-use Rattle.script_lines.specs.LineWords.{line_word, part_word, script_word, structure_word, thread_word, port_word, message_word, handle_word, memory_word, client_word, or_calls, or_script}
+use Rattle.script_lines.specs.Calls.{port_word, message_word, handle_word, memory_word}
+use Rattle.script_lines.specs.LineWords.{line_word, part_word, script_word, structure_word, thread_word, client_word, or_calls, or_script}
 use Rattle.script_lines.specs.Numbers.{number_below}
-use Rattle.script_lines.specs.Texts.{is_comment, is_skipped}
+use Rattle.script_lines.specs.Texts.{is_skipped}
 use Rattle.scene_lines.specs.Reading.{is_header, turn_word, with_turns}
 use Rattle.scene_laws.proofs.Results.{after}
 use Rattle.scene_laws.specs.DriverWords.{is_driver_word, begins_by_driver}

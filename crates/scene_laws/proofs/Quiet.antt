@@ -1,5 +1,5 @@
 -- Lines before the turns: after each of them, where it is no fault, there is no turn yet, or what there was.
-use Rattle.std.proofs.Common.{◌≡◌, ℕ, ◌≤◌, cond, List, [], ◌∷◌, ◌++◌, length, Result, Ok, Err, refl, arith}
+use Rattle.std.proofs.Common.{◌≡◌, ℕ, ◌≤◌, Bool, cond, List, [], ◌∷◌, ◌++◌, length, Result, Ok, Err, refl, arith}
 use Rattle.std.specs.Prelude.{IfOk, nat_lt}
 use Rattle.kernel_values.specs.Words.{is_name}
 use Rattle.kernel_values.specs.declared.scene.Manifest.{Manifest}
@@ -52,24 +52,25 @@ app_line_quiet used app word words =
     either UsedQuiet app.has_thread (command_line app.names word words >>= next) (Err OutOfPlace)
     (after UsedQuiet (command_line app.names word words) next (λ read. command_quiet used (record app { names = read.0 }) read.1)) tt
 
+-- a line within a repeat, which may be past what a scene may hold
+in_repeat_quiet : (is_past : Bool) (unnamed named : Result (List (List ℕ) × Command) SceneKind) (past more : List (List ℕ) × Command → Place)
+    → ((read : List (List ℕ) × Command) → IsQuiet (past read)) → ((read : List (List ℕ) × Command) → IsQuiet (more read))
+    → IfOk (cond is_past (unnamed >>= (λ read. Ok (past read))) (named >>= (λ read. Ok (more read)))) IsQuiet
+in_repeat_quiet is_past unnamed named past more left kept =
+    either IsQuiet is_past (unnamed >>= (λ read. Ok (past read))) (named >>= (λ read. Ok (more read)))
+    (after IsQuiet unnamed (λ read. Ok (past read)) left) (after IsQuiet named (λ read. Ok (more read)) kept)
+
 repeat_line_quiet : (app : OpenApp) (repeat : Repeat) (word : CallWord) (words : List (List ℕ)) → IfOk (repeat_line app repeat word words) IsQuiet
 unfolding repeat_line
 repeat_line_quiet app repeat word words =
-    let past : List (List ℕ) × Command → Result Place SceneKind = λ read. Ok (place.Repeat app repeat) in
-    let more : List (List ℕ) × Command → Result Place SceneKind = λ read. Ok (place.Repeat (record app { names = read.0 }) (extended repeat read.1)) in
-    either IsQuiet repeat.is_past (command_line [] word words >>= past) (command_line app.names word words >>= more)
-    (after IsQuiet (command_line [] word words) past (λ read. refl))
-    (after IsQuiet (command_line app.names word words) more (λ read. refl))
+    in_repeat_quiet repeat.is_past (command_line [] word words) (command_line app.names word words)
+    (λ read. place.Repeat app repeat) (λ read. place.Repeat (record app { names = read.0 }) (extended repeat read.1)) (λ read. refl) (λ read. refl)
 
 call_quiet : (used : Used) (last : Place) (word : CallWord) (words : List (List ℕ)) → IfOk (call_act used last word words) UsedQuiet
 unfolding call_act
 call_quiet used (place.App app) word words = app_line_quiet used app word words
 call_quiet used (place.Repeat app repeat) word words = after_that IsQuiet UsedQuiet (repeat_line app repeat word words) (λ next. Ok (used, next)) (repeat_line_quiet app repeat word words) (λ next quiet. quiet)
-call_quiet used (place.Client client) word words = tt
-call_quiet used (place.ClientRepeat client repeat) word words = tt
-call_quiet used place.Start word words = tt
-call_quiet used place.Outside word words = tt
-call_quiet used (place.Turns turns) word words = tt
+call_quiet used _ word words = tt
 
 -- ---- clients' commands
 
@@ -86,21 +87,14 @@ client_line_quiet used client word words =
 client_repeat_line_quiet : (client : OpenClient) (repeat : Repeat) (word : ClientWord) (words : List (List ℕ)) → IfOk (client_repeat_line client repeat word words) IsQuiet
 unfolding client_repeat_line
 client_repeat_line_quiet client repeat word words =
-    let past : List (List ℕ) × Command → Result Place SceneKind = λ read. Ok (place.ClientRepeat client repeat) in
-    let more : List (List ℕ) × Command → Result Place SceneKind = λ read. Ok (place.ClientRepeat (record client { names = read.0 }) (extended repeat read.1)) in
-    either IsQuiet repeat.is_past (client_command_line [] word words >>= past) (client_command_line client.names word words >>= more)
-    (after IsQuiet (client_command_line [] word words) past (λ read. refl))
-    (after IsQuiet (client_command_line client.names word words) more (λ read. refl))
+    in_repeat_quiet repeat.is_past (client_command_line [] word words) (client_command_line client.names word words)
+    (λ read. place.ClientRepeat client repeat) (λ read. place.ClientRepeat (record client { names = read.0 }) (extended repeat read.1)) (λ read. refl) (λ read. refl)
 
 client_call_quiet : (used : Used) (last : Place) (word : ClientWord) (words : List (List ℕ)) → IfOk (client_call_act used last word words) UsedQuiet
 unfolding client_call_act
 client_call_quiet used (place.Client client) word words = client_line_quiet used client word words
 client_call_quiet used (place.ClientRepeat client repeat) word words = after_that IsQuiet UsedQuiet (client_repeat_line client repeat word words) (λ next. Ok (used, next)) (client_repeat_line_quiet client repeat word words) (λ next quiet. quiet)
-client_call_quiet used (place.App app) word words = tt
-client_call_quiet used (place.Repeat app repeat) word words = tt
-client_call_quiet used place.Start word words = tt
-client_call_quiet used place.Outside word words = tt
-client_call_quiet used (place.Turns turns) word words = tt
+client_call_quiet used _ word words = tt
 
 -- ---- threads and repeats
 
@@ -109,12 +103,7 @@ unfolding thread_act
 thread_quiet (place.App app) words =
     let opened : OpenApp → Result Place SceneKind = λ next. Ok (place.App next) in
     either IsQuiet (no_more words) (next_thread app >>= opened) (Err BadWords) (after IsQuiet (next_thread app) opened (λ next. refl)) tt
-thread_quiet (place.Repeat app repeat) words = tt
-thread_quiet (place.Client client) words = tt
-thread_quiet (place.ClientRepeat client repeat) words = tt
-thread_quiet place.Start words = tt
-thread_quiet place.Outside words = tt
-thread_quiet (place.Turns turns) words = tt
+thread_quiet _ words = tt
 
 repeat_quiet : (at : ℕ) (last : Place) (words : List (List ℕ)) → IfOk (repeat_act at last words) IsQuiet
 unfolding repeat_act
@@ -122,11 +111,7 @@ repeat_quiet at (place.App app) words =
     let opened : ℕ → Result Place SceneKind = λ times. Ok (place.Repeat app (begun at times)) in
     either IsQuiet app.has_thread (times_in words >>= opened) (Err OutOfPlace) (after IsQuiet (times_in words) opened (λ times. refl)) tt
 repeat_quiet at (place.Client client) words = after IsQuiet (times_in words) (λ times. Ok (place.ClientRepeat client (begun at times))) (λ times. refl)
-repeat_quiet at (place.Repeat app repeat) words = tt
-repeat_quiet at (place.ClientRepeat client repeat) words = tt
-repeat_quiet at place.Start words = tt
-repeat_quiet at place.Outside words = tt
-repeat_quiet at (place.Turns turns) words = tt
+repeat_quiet at _ words = tt
 
 closed_quiet : (used : Used) (app : OpenApp) (repeat : Repeat) → IfOk (closed used app repeat) UsedQuiet
 unfolding closed
@@ -140,11 +125,7 @@ end_quiet : (used : Used) (last : Place) (words : List (List ℕ)) → IfOk (end
 unfolding end_act
 end_quiet used (place.Repeat app repeat) words = either UsedQuiet (no_more words) (closed used app repeat) (Err BadWords) (closed_quiet used app repeat) tt
 end_quiet used (place.ClientRepeat client repeat) words = either UsedQuiet (no_more words) (client_closed used client repeat) (Err BadWords) (client_closed_quiet used client repeat) tt
-end_quiet used (place.App app) words = tt
-end_quiet used (place.Client client) words = tt
-end_quiet used place.Start words = tt
-end_quiet used place.Outside words = tt
-end_quiet used (place.Turns turns) words = tt
+end_quiet used _ words = tt
 
 -- ---- applications
 

@@ -9,6 +9,10 @@ use Rattle.kernel_values.specs.declared.call.Call.{Call}
 use Rattle.script_lines.specs.declared.fault.SceneKind.{SceneKind}
 use Rattle.script_lines.specs.declared.fault.SceneKind.TheVariants.{BadWords}
 use Rattle.script_lines.specs.declared.registers.Registers.{Registers}
+use Rattle.script_lines.specs.declared.command_lines.PortWord.TheVariants as for_port
+use Rattle.script_lines.specs.declared.message_lines.MessageWord.TheVariants as for_message
+use Rattle.script_lines.specs.declared.handle_lines.HandleWord.TheVariants as for_handle
+use Rattle.script_lines.specs.declared.memory_lines.MemoryWord.TheVariants as for_memory
 use Rattle.script_lines.specs.declared.words.CallWord.{CallWord}
 use Rattle.script_lines.specs.declared.words.CallWord.TheVariants as word
 use Rattle.script_lines.specs.declared.words.ClientWord.{ClientWord}
@@ -17,7 +21,7 @@ use Rattle.script_lines.specs.Gives.{◌>>=◌}
 use Rattle.script_lines.specs.Numbers.{number, number_below, cookie, number_within, mask, timeout_word, path_word, port_flags, connect_flags, mem_flags}
 use Rattle.script_lines.specs.Payloads.{bytes_word, hex_bytes, decoded, filled, most_bytes}
 use Rattle.script_lines.specs.Registers.{place_of, with_name, no_handle, register, hand, with_set, with_sets, as_one, as_some, parts}
-use Rattle.script_lines.specs.Calls.{Spelled, port_line, connect_line, accept_line, wait_line, waitany_line, send_line, get_line, asked, read_line, put_line, cookie_line, close_line, dup_line, set_line, watched, add_line, del_line, mod_line, memref_line, mread_line, mwrite_line, exit_line, call_line}
+use Rattle.script_lines.specs.Calls.{Spelled, any_port_line, any_message_line, any_handle_line, any_memory_line, port_line, connect_line, accept_line, wait_line, waitany_line, send_line, get_line, asked, read_line, put_line, cookie_line, close_line, dup_line, set_line, watched, add_line, del_line, mod_line, memref_line, mread_line, mwrite_line, exit_line, call_line}
 use Rattle.script_lines.specs.ClientCalls.{nconnect_line, nsend_line, nrecv_line, nclose_line, npoke_line, nkick_line, client_call_line}
 
 -- a register is read, or set
@@ -312,27 +316,27 @@ exits R c (code ∷ []) r q h = same R (number code) (numbers code) _ _ (λ code
 exits R c words r q h = (refl, refl)
 
 pub calls : (call : CallWord) → LineAlike (λ r. call_line r call)
-unfolding call_line
-calls word.Port = ports
-calls word.Connect = connects
-calls word.Accept = accepts
-calls word.Wait = waits
-calls word.WaitAny = waits_any
-calls word.Send = sends
-calls word.Get = gets
-calls word.Read = reads
-calls word.Put = puts
-calls word.Cookie = cookies
-calls word.Close = closes
-calls word.Dup = dups
-calls word.Set = sets
-calls word.Add = adds
-calls word.Del = dels
-calls word.Mod = mods
-calls word.Memref = memrefs
-calls word.MemRead = mreads
-calls word.MemWrite = mwrites
-calls word.Exit = exits
+unfolding call_line any_port_line any_message_line any_handle_line any_memory_line
+calls (word.Port for_port.Port) = ports
+calls (word.Port for_port.Connect) = connects
+calls (word.Port for_port.Accept) = accepts
+calls (word.Port for_port.Wait) = waits
+calls (word.Port for_port.WaitAny) = waits_any
+calls (word.Port for_port.Exit) = exits
+calls (word.Message for_message.Send) = sends
+calls (word.Message for_message.Get) = gets
+calls (word.Message for_message.Read) = reads
+calls (word.Message for_message.Put) = puts
+calls (word.Handle for_handle.Cookie) = cookies
+calls (word.Handle for_handle.Close) = closes
+calls (word.Handle for_handle.Dup) = dups
+calls (word.Handle for_handle.Set) = sets
+calls (word.Handle for_handle.Add) = adds
+calls (word.Handle for_handle.Del) = dels
+calls (word.Handle for_handle.Mod) = mods
+calls (word.Memory for_memory.Create) = memrefs
+calls (word.Memory for_memory.Read) = mreads
+calls (word.Memory for_memory.Write) = mwrites
 
 -- ---- lines of clients
 

@@ -1,5 +1,5 @@
--- The lines of a thread's script: what each of them calls.
-use Rattle.std.specs.Prelude.{ℕ, Bool, ◌&&◌, List, [], ◌∷◌, length, nat_le, Result, Ok, Err, if◌then◌else◌}
+-- The lines of a thread's script: the words that begin them, and what each of them calls.
+use Rattle.std.specs.Prelude.{ℕ, Bool, ◌&&◌, List, [], ◌∷◌, bytes_eq, codes, length, nat_le, Option, Some, None, Result, Ok, Err, if◌then◌else◌}
 use Rattle.kernel_values.specs.Calls.{can_be_spelled, is_thread_call}
 use Rattle.kernel_values.specs.declared.call.Call.{Call}
 use Rattle.kernel_values.specs.declared.call.Call.TheVariants as call
@@ -8,6 +8,14 @@ use Rattle.kernel_values.specs.declared.script.Command.{Command}
 use Rattle.script_lines.specs.declared.fault.SceneKind.{SceneKind}
 use Rattle.script_lines.specs.declared.fault.SceneKind.TheVariants.{BadWords}
 use Rattle.script_lines.specs.declared.registers.Registers.{Registers}
+use Rattle.script_lines.specs.declared.command_lines.PortWord.{PortWord}
+use Rattle.script_lines.specs.declared.command_lines.PortWord.TheVariants as for_port
+use Rattle.script_lines.specs.declared.message_lines.MessageWord.{MessageWord}
+use Rattle.script_lines.specs.declared.message_lines.MessageWord.TheVariants as for_message
+use Rattle.script_lines.specs.declared.handle_lines.HandleWord.{HandleWord}
+use Rattle.script_lines.specs.declared.handle_lines.HandleWord.TheVariants as for_handle
+use Rattle.script_lines.specs.declared.memory_lines.MemoryWord.{MemoryWord}
+use Rattle.script_lines.specs.declared.memory_lines.MemoryWord.TheVariants as for_memory
 use Rattle.script_lines.specs.declared.words.CallWord.{CallWord}
 use Rattle.script_lines.specs.declared.words.CallWord.TheVariants as word
 use Rattle.script_lines.specs.Gives.{◌>>=◌}
@@ -22,7 +30,16 @@ is_thread_line call = is_thread_call call && can_be_spelled call
 abbrev pub Spelled : Type 0
 Spelled = Result (Registers × Call) SceneKind
 
--- ---- ports and waits
+-- ---- ports, waits, and the end of an application
+
+unfoldable pub port_word : List ℕ → Option PortWord
+port_word word = if bytes_eq word (codes "port") then Some for_port.Port
+    else if bytes_eq word (codes "connect") then Some for_port.Connect
+    else if bytes_eq word (codes "accept") then Some for_port.Accept
+    else if bytes_eq word (codes "wait") then Some for_port.Wait
+    else if bytes_eq word (codes "waitany") then Some for_port.WaitAny
+    else if bytes_eq word (codes "exit") then Some for_port.Exit
+    else None
 
 -- `port PATH BUFS SIZE FLAGS [as REG]`
 unfoldable pub port_line : Registers → List (List ℕ) → Spelled
@@ -69,7 +86,29 @@ waitany_line r (timeout ∷ rest) = do
   Ok (r, call.WaitAny timeout)
 waitany_line r words = Err BadWords
 
+-- `exit CODE`
+unfoldable pub exit_line : Registers → List (List ℕ) → Spelled
+exit_line r (code ∷ []) = do
+  code ← number code
+  Ok (r, call.Exit code)
+exit_line r words = Err BadWords
+
+unfoldable pub any_port_line : Registers → PortWord → List (List ℕ) → Spelled
+any_port_line r for_port.Port words = port_line r words
+any_port_line r for_port.Connect words = connect_line r words
+any_port_line r for_port.Accept words = accept_line r words
+any_port_line r for_port.Wait words = wait_line r words
+any_port_line r for_port.WaitAny words = waitany_line r words
+any_port_line r for_port.Exit words = exit_line r words
+
 -- ---- messages
+
+unfoldable pub message_word : List ℕ → Option MessageWord
+message_word word = if bytes_eq word (codes "send") then Some for_message.Send
+    else if bytes_eq word (codes "get") then Some for_message.Get
+    else if bytes_eq word (codes "read") then Some for_message.Read
+    else if bytes_eq word (codes "put") then Some for_message.Put
+    else None
 
 -- `send H BYTES [H, up to 16 times]`
 unfoldable pub send_line : Registers → List (List ℕ) → Spelled
@@ -115,7 +154,23 @@ put_line r (chan ∷ id ∷ []) = do
   Ok (id.0, call.Put chan.1 id.1)
 put_line r words = Err BadWords
 
+unfoldable pub any_message_line : Registers → MessageWord → List (List ℕ) → Spelled
+any_message_line r for_message.Send words = send_line r words
+any_message_line r for_message.Get words = get_line r words
+any_message_line r for_message.Read words = read_line r words
+any_message_line r for_message.Put words = put_line r words
+
 -- ---- handles and their sets
+
+unfoldable pub handle_word : List ℕ → Option HandleWord
+handle_word word = if bytes_eq word (codes "cookie") then Some for_handle.Cookie
+    else if bytes_eq word (codes "close") then Some for_handle.Close
+    else if bytes_eq word (codes "dup") then Some for_handle.Dup
+    else if bytes_eq word (codes "set") then Some for_handle.Set
+    else if bytes_eq word (codes "add") then Some for_handle.Add
+    else if bytes_eq word (codes "del") then Some for_handle.Del
+    else if bytes_eq word (codes "mod") then Some for_handle.Mod
+    else None
 
 -- `cookie H COOKIE`
 unfoldable pub cookie_line : Registers → List (List ℕ) → Spelled
@@ -180,7 +235,22 @@ mod_line r (set ∷ label ∷ rest) = do
   Ok (label.0, call.SetMod set.1 label.1 watched.0 watched.1)
 mod_line r words = Err BadWords
 
--- ---- memory, and the end
+unfoldable pub any_handle_line : Registers → HandleWord → List (List ℕ) → Spelled
+any_handle_line r for_handle.Cookie words = cookie_line r words
+any_handle_line r for_handle.Close words = close_line r words
+any_handle_line r for_handle.Dup words = dup_line r words
+any_handle_line r for_handle.Set words = set_line r words
+any_handle_line r for_handle.Add words = add_line r words
+any_handle_line r for_handle.Del words = del_line r words
+any_handle_line r for_handle.Mod words = mod_line r words
+
+-- ---- memory references
+
+unfoldable pub memory_word : List ℕ → Option MemoryWord
+memory_word word = if bytes_eq word (codes "memref") then Some for_memory.Create
+    else if bytes_eq word (codes "mread") then Some for_memory.Read
+    else if bytes_eq word (codes "mwrite") then Some for_memory.Write
+    else None
 
 -- `memref SIZE FLAGS [as REG]`
 unfoldable pub memref_line : Registers → List (List ℕ) → Spelled
@@ -209,36 +279,18 @@ mwrite_line r (handle ∷ offset ∷ bytes ∷ []) = do
   Ok (handle.0, call.MemWrite handle.1 offset bytes)
 mwrite_line r words = Err BadWords
 
--- `exit CODE`
-unfoldable pub exit_line : Registers → List (List ℕ) → Spelled
-exit_line r (code ∷ []) = do
-  code ← number code
-  Ok (r, call.Exit code)
-exit_line r words = Err BadWords
+unfoldable pub any_memory_line : Registers → MemoryWord → List (List ℕ) → Spelled
+any_memory_line r for_memory.Create words = memref_line r words
+any_memory_line r for_memory.Read words = mread_line r words
+any_memory_line r for_memory.Write words = mwrite_line r words
 
 -- ---- any of them
 
 unfoldable pub call_line : Registers → CallWord → List (List ℕ) → Spelled
-call_line r word.Port words = port_line r words
-call_line r word.Connect words = connect_line r words
-call_line r word.Accept words = accept_line r words
-call_line r word.Wait words = wait_line r words
-call_line r word.WaitAny words = waitany_line r words
-call_line r word.Send words = send_line r words
-call_line r word.Get words = get_line r words
-call_line r word.Read words = read_line r words
-call_line r word.Put words = put_line r words
-call_line r word.Cookie words = cookie_line r words
-call_line r word.Close words = close_line r words
-call_line r word.Dup words = dup_line r words
-call_line r word.Set words = set_line r words
-call_line r word.Add words = add_line r words
-call_line r word.Del words = del_line r words
-call_line r word.Mod words = mod_line r words
-call_line r word.Memref words = memref_line r words
-call_line r word.MemRead words = mread_line r words
-call_line r word.MemWrite words = mwrite_line r words
-call_line r word.Exit words = exit_line r words
+call_line r (word.Port of) words = any_port_line r of words
+call_line r (word.Message of) words = any_message_line r of words
+call_line r (word.Handle of) words = any_handle_line r of words
+call_line r (word.Memory of) words = any_memory_line r of words
 
 -- the line's command, and the names of the script's registers after it
 unfoldable pub command_line : List (List ℕ) → CallWord → List (List ℕ) → Result (List (List ℕ) × Command) SceneKind

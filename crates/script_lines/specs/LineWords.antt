@@ -1,5 +1,9 @@
 -- The words that begin a line.
 use Rattle.std.specs.Prelude.{ℕ, List, bytes_eq, codes, Option, Some, None, if◌then◌else◌}
+use Rattle.script_lines.specs.declared.command_lines.PortWord.{PortWord}
+use Rattle.script_lines.specs.declared.message_lines.MessageWord.{MessageWord}
+use Rattle.script_lines.specs.declared.handle_lines.HandleWord.{HandleWord}
+use Rattle.script_lines.specs.declared.memory_lines.MemoryWord.{MemoryWord}
 use Rattle.script_lines.specs.declared.words.LineWord.{LineWord}
 use Rattle.script_lines.specs.declared.words.LineWord.TheVariants as line
 use Rattle.script_lines.specs.declared.words.CallWord.{CallWord}
@@ -10,6 +14,7 @@ use Rattle.script_lines.specs.declared.words.PartWord.{PartWord}
 use Rattle.script_lines.specs.declared.words.PartWord.TheVariants as part
 use Rattle.script_lines.specs.declared.words.ScriptWord.{ScriptWord}
 use Rattle.script_lines.specs.declared.words.ScriptWord.TheVariants as script
+use Rattle.script_lines.specs.Calls.{port_word, message_word, handle_word, memory_word}
 
 -- what a scene is made of
 unfoldable pub part_word : List ℕ → Option PartWord
@@ -26,49 +31,16 @@ structure_word word = if bytes_eq word (codes "thread") then Some script.Thread
     else if bytes_eq word (codes "end") then Some script.End
     else None
 
--- ports and waits
-unfoldable pub port_word : List ℕ → Option CallWord
-port_word word = if bytes_eq word (codes "port") then Some call.Port
-    else if bytes_eq word (codes "connect") then Some call.Connect
-    else if bytes_eq word (codes "accept") then Some call.Accept
-    else if bytes_eq word (codes "wait") then Some call.Wait
-    else if bytes_eq word (codes "waitany") then Some call.WaitAny
-    else None
-
--- messages
-unfoldable pub message_word : List ℕ → Option CallWord
-message_word word = if bytes_eq word (codes "send") then Some call.Send
-    else if bytes_eq word (codes "get") then Some call.Get
-    else if bytes_eq word (codes "read") then Some call.Read
-    else if bytes_eq word (codes "put") then Some call.Put
-    else None
-
--- handles and their sets
-unfoldable pub handle_word : List ℕ → Option CallWord
-handle_word word = if bytes_eq word (codes "cookie") then Some call.Cookie
-    else if bytes_eq word (codes "close") then Some call.Close
-    else if bytes_eq word (codes "dup") then Some call.Dup
-    else if bytes_eq word (codes "set") then Some call.Set
-    else if bytes_eq word (codes "add") then Some call.Add
-    else if bytes_eq word (codes "del") then Some call.Del
-    else if bytes_eq word (codes "mod") then Some call.Mod
-    else None
-
--- memory, and the end
-unfoldable pub memory_word : List ℕ → Option CallWord
-memory_word word = if bytes_eq word (codes "memref") then Some call.Memref
-    else if bytes_eq word (codes "mread") then Some call.MemRead
-    else if bytes_eq word (codes "mwrite") then Some call.MemWrite
-    else if bytes_eq word (codes "exit") then Some call.Exit
-    else None
-
-abbrev pub or_else : Option CallWord → Option CallWord → Option CallWord
-or_else (Some word) other = Some word
-or_else None other = other
+abbrev pub on_subject : Option PortWord → Option MessageWord → Option HandleWord → Option MemoryWord → Option CallWord
+on_subject (Some word) message handle memory = Some (call.Port word)
+on_subject None (Some word) handle memory = Some (call.Message word)
+on_subject None None (Some word) memory = Some (call.Handle word)
+on_subject None None None (Some word) = Some (call.Memory word)
+on_subject None None None None = None
 
 -- the lines of a thread's script
 unfoldable pub thread_word : List ℕ → Option CallWord
-thread_word word = or_else (port_word word) (or_else (message_word word) (or_else (handle_word word) (memory_word word)))
+thread_word word = on_subject (port_word word) (message_word word) (handle_word word) (memory_word word)
 
 -- the lines of a client's script
 unfoldable pub client_word : List ℕ → Option ClientWord

@@ -4,15 +4,11 @@ ghost use Rattle.std.specs.Prelude.{◌≡◌, IfOk, IsTrue, map};
 ghost use Rattle.script_lines.specs.Gives.{Gives};
 ghost use Rattle.script_lines.specs.Calls.{is_thread_line, call_line, command_line};
 
-use crate::command_lines::{
-    accept_line, connect_line, exit_line, port_line, wait_line, waitany_line,
-};
+use crate::command_lines::any_port_line;
 use crate::fault::LineRefused;
-use crate::handle_lines::{
-    add_line, close_line, cookie_line, del_line, dup_line, mod_line, set_line,
-};
-use crate::memory_lines::{memref_line, mread_line, mwrite_line};
-use crate::message_lines::{get_line, put_line, read_line, send_line};
+use crate::handle_lines::any_handle_line;
+use crate::memory_lines::any_memory_line;
+use crate::message_lines::any_message_line;
 use crate::registers::Registers;
 use crate::words::CallWord;
 use kernel_values::{Bytes, Call, Command, Items, RegList, RegReadList};
@@ -30,26 +26,10 @@ fn call_line(
     ensures lawful { IfOk result (λ call. IsTrue (is_thread_line call)) }
 {
     match word {
-        CallWord::Port => port_line(alloc, registers, words),
-        CallWord::Connect => connect_line(alloc, registers, words),
-        CallWord::Accept => accept_line(alloc, registers, words),
-        CallWord::Wait => wait_line(alloc, registers, words),
-        CallWord::WaitAny => waitany_line(alloc, registers, words),
-        CallWord::Send => send_line(alloc, registers, words),
-        CallWord::Get => get_line(alloc, registers, words),
-        CallWord::Read => read_line(alloc, registers, words),
-        CallWord::Put => put_line(alloc, registers, words),
-        CallWord::Cookie => cookie_line(alloc, registers, words),
-        CallWord::Close => close_line(alloc, registers, words),
-        CallWord::Dup => dup_line(alloc, registers, words),
-        CallWord::Set => set_line(alloc, registers, words),
-        CallWord::Add => add_line(alloc, registers, words),
-        CallWord::Del => del_line(alloc, registers, words),
-        CallWord::Mod => mod_line(alloc, registers, words),
-        CallWord::Memref => memref_line(alloc, registers, words),
-        CallWord::MemRead => mread_line(alloc, registers, words),
-        CallWord::MemWrite => mwrite_line(alloc, registers, words),
-        CallWord::Exit => exit_line(alloc, registers, words),
+        CallWord::Port(word) => any_port_line(alloc, registers, word, words),
+        CallWord::Message(word) => any_message_line(alloc, registers, word, words),
+        CallWord::Handle(word) => any_handle_line(alloc, registers, word, words),
+        CallWord::Memory(word) => any_memory_line(alloc, registers, word, words),
     }
 }
 

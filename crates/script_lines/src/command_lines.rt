@@ -2,7 +2,7 @@
 
 ghost use Rattle.std.specs.Prelude.{◌≡◌, IfOk, IsTrue, map};
 ghost use Rattle.script_lines.specs.Gives.{Gives};
-ghost use Rattle.script_lines.specs.Calls.{is_thread_line, port_line, connect_line, accept_line, wait_line, waitany_line, exit_line};
+ghost use Rattle.script_lines.specs.Calls.{is_thread_line, port_word, any_port_line, port_line, connect_line, accept_line, wait_line, waitany_line, exit_line};
 
 use crate::fault::LineRefused::{self, Fault};
 use crate::fault::SceneKind::BadWords;
@@ -11,13 +11,46 @@ use crate::registers::{Registers, as_one, hand};
 use kernel_values::Call;
 use std::alloc::Global;
 
-/// `port PATH BUFS SIZE FLAGS [as REG]`
+/// The lines on ports and waits, and the one that ends an application.
+#[derive(Clone, Copy)]
+pub enum PortWord {
+    Port,
+    Connect,
+    Accept,
+    Wait,
+    WaitAny,
+    Exit,
+}
+
+/// Which of these lines the word begins, if any.
+#[tactic(auto, unfolding(crate::specs::Calls::port_word))]
+pub fn port_word(word: &[u8]) -> Option<PortWord>
+    ensures { result ≡ port_word word.now }
+{
+    if word == b"port".as_slice() {
+        return Some(PortWord::Port);
+    }
+    if word == b"connect".as_slice() {
+        return Some(PortWord::Connect);
+    }
+    if word == b"accept".as_slice() {
+        return Some(PortWord::Accept);
+    }
+    if word == b"wait".as_slice() {
+        return Some(PortWord::Wait);
+    }
+    if word == b"waitany".as_slice() {
+        return Some(PortWord::WaitAny);
+    }
+    if word == b"exit".as_slice() {
+        return Some(PortWord::Exit);
+    }
+    None
+}
+
+// `port PATH BUFS SIZE FLAGS [as REG]`
 #[tactic(auto, unfolding(crate::specs::Calls::port_line))]
-pub fn port_line(
-    alloc: Global,
-    registers: &mut Registers,
-    words: &[&[u8]],
-) -> Result<Call, LineRefused>
+fn port_line(alloc: Global, registers: &mut Registers, words: &[&[u8]]) -> Result<Call, LineRefused>
     ensures exact { Gives (λ call. (registers.new, call)) result (port_line registers.old (map (λ word. word.now) words.now)) }
     ensures lawful { IfOk result (λ call. IsTrue (is_thread_line call)) }
 {
@@ -39,9 +72,9 @@ pub fn port_line(
     }
 }
 
-/// `connect PATH FLAGS [as REG]`
+// `connect PATH FLAGS [as REG]`
 #[tactic(auto, unfolding(crate::specs::Calls::connect_line))]
-pub fn connect_line(
+fn connect_line(
     alloc: Global,
     registers: &mut Registers,
     words: &[&[u8]],
@@ -60,9 +93,9 @@ pub fn connect_line(
     }
 }
 
-/// `accept H [as REG]`
+// `accept H [as REG]`
 #[tactic(auto, unfolding(crate::specs::Calls::accept_line))]
-pub fn accept_line(
+fn accept_line(
     alloc: Global,
     registers: &mut Registers,
     words: &[&[u8]],
@@ -80,13 +113,9 @@ pub fn accept_line(
     }
 }
 
-/// `wait H TIMEOUT [as REG]`
+// `wait H TIMEOUT [as REG]`
 #[tactic(auto, unfolding(crate::specs::Calls::wait_line))]
-pub fn wait_line(
-    alloc: Global,
-    registers: &mut Registers,
-    words: &[&[u8]],
-) -> Result<Call, LineRefused>
+fn wait_line(alloc: Global, registers: &mut Registers, words: &[&[u8]]) -> Result<Call, LineRefused>
     ensures exact { Gives (λ call. (registers.new, call)) result (wait_line registers.old (map (λ word. word.now) words.now)) }
     ensures lawful { IfOk result (λ call. IsTrue (is_thread_line call)) }
 {
@@ -101,9 +130,9 @@ pub fn wait_line(
     }
 }
 
-/// `waitany TIMEOUT [as REG]`
+// `waitany TIMEOUT [as REG]`
 #[tactic(auto, unfolding(crate::specs::Calls::waitany_line))]
-pub fn waitany_line(
+fn waitany_line(
     alloc: Global,
     registers: &mut Registers,
     words: &[&[u8]],
@@ -121,13 +150,9 @@ pub fn waitany_line(
     }
 }
 
-/// `exit CODE`
+// `exit CODE`
 #[tactic(auto, unfolding(crate::specs::Calls::exit_line))]
-pub fn exit_line(
-    alloc: Global,
-    registers: &mut Registers,
-    words: &[&[u8]],
-) -> Result<Call, LineRefused>
+fn exit_line(alloc: Global, registers: &mut Registers, words: &[&[u8]]) -> Result<Call, LineRefused>
     ensures exact { Gives (λ call. (registers.new, call)) result (exit_line registers.old (map (λ word. word.now) words.now)) }
     ensures lawful { IfOk result (λ call. IsTrue (is_thread_line call)) }
 {
@@ -137,5 +162,26 @@ pub fn exit_line(
             Ok(Call::Exit { code })
         }
         _ => Err(Fault(BadWords)),
+    }
+}
+
+/// What the line with this first word calls.
+#[tactic(auto, unfolding(crate::specs::Calls::any_port_line))]
+pub fn any_port_line(
+    alloc: Global,
+    registers: &mut Registers,
+    word: PortWord,
+    words: &[&[u8]],
+) -> Result<Call, LineRefused>
+    ensures exact { Gives (λ call. (registers.new, call)) result (any_port_line registers.old word (map (λ word. word.now) words.now)) }
+    ensures lawful { IfOk result (λ call. IsTrue (is_thread_line call)) }
+{
+    match word {
+        PortWord::Port => port_line(alloc, registers, words),
+        PortWord::Connect => connect_line(alloc, registers, words),
+        PortWord::Accept => accept_line(alloc, registers, words),
+        PortWord::Wait => wait_line(alloc, registers, words),
+        PortWord::WaitAny => waitany_line(alloc, registers, words),
+        PortWord::Exit => exit_line(alloc, registers, words),
     }
 }

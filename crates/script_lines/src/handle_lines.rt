@@ -2,7 +2,7 @@
 
 ghost use Rattle.std.specs.Prelude.{◌≡◌, IfOk, IsTrue, map, nat_lt};
 ghost use Rattle.script_lines.specs.Gives.{Gives};
-ghost use Rattle.script_lines.specs.Calls.{is_thread_line, watched, cookie_line, close_line, dup_line, set_line, add_line, del_line, mod_line};
+ghost use Rattle.script_lines.specs.Calls.{is_thread_line, handle_word, any_handle_line, watched, cookie_line, close_line, dup_line, set_line, add_line, del_line, mod_line};
 
 use crate::fault::LineRefused::{self, Fault};
 use crate::fault::SceneKind::BadWords;
@@ -11,9 +11,50 @@ use crate::registers::{Registers, as_one, hand};
 use kernel_values::{Call, Events};
 use std::alloc::Global;
 
-/// `cookie H COOKIE`
+/// The lines on handles and their sets.
+#[derive(Clone, Copy)]
+pub enum HandleWord {
+    Cookie,
+    Close,
+    Dup,
+    Set,
+    Add,
+    Del,
+    Mod,
+}
+
+/// Which of these lines the word begins, if any.
+#[tactic(auto, unfolding(crate::specs::Calls::handle_word))]
+pub fn handle_word(word: &[u8]) -> Option<HandleWord>
+    ensures { result ≡ handle_word word.now }
+{
+    if word == b"cookie".as_slice() {
+        return Some(HandleWord::Cookie);
+    }
+    if word == b"close".as_slice() {
+        return Some(HandleWord::Close);
+    }
+    if word == b"dup".as_slice() {
+        return Some(HandleWord::Dup);
+    }
+    if word == b"set".as_slice() {
+        return Some(HandleWord::Set);
+    }
+    if word == b"add".as_slice() {
+        return Some(HandleWord::Add);
+    }
+    if word == b"del".as_slice() {
+        return Some(HandleWord::Del);
+    }
+    if word == b"mod".as_slice() {
+        return Some(HandleWord::Mod);
+    }
+    None
+}
+
+// `cookie H COOKIE`
 #[tactic(auto, unfolding(crate::specs::Calls::cookie_line))]
-pub fn cookie_line(
+fn cookie_line(
     alloc: Global,
     registers: &mut Registers,
     words: &[&[u8]],
@@ -31,9 +72,9 @@ pub fn cookie_line(
     }
 }
 
-/// `close H`
+// `close H`
 #[tactic(auto, unfolding(crate::specs::Calls::close_line))]
-pub fn close_line(
+fn close_line(
     alloc: Global,
     registers: &mut Registers,
     words: &[&[u8]],
@@ -50,13 +91,9 @@ pub fn close_line(
     }
 }
 
-/// `dup H [as REG]`
+// `dup H [as REG]`
 #[tactic(auto, unfolding(crate::specs::Calls::dup_line))]
-pub fn dup_line(
-    alloc: Global,
-    registers: &mut Registers,
-    words: &[&[u8]],
-) -> Result<Call, LineRefused>
+fn dup_line(alloc: Global, registers: &mut Registers, words: &[&[u8]]) -> Result<Call, LineRefused>
     ensures exact { Gives (λ call. (registers.new, call)) result (dup_line registers.old (map (λ word. word.now) words.now)) }
     ensures lawful { IfOk result (λ call. IsTrue (is_thread_line call)) }
 {
@@ -70,13 +107,9 @@ pub fn dup_line(
     }
 }
 
-/// `set [as REG]`
+// `set [as REG]`
 #[tactic(auto, unfolding(crate::specs::Calls::set_line))]
-pub fn set_line(
-    alloc: Global,
-    registers: &mut Registers,
-    words: &[&[u8]],
-) -> Result<Call, LineRefused>
+fn set_line(alloc: Global, registers: &mut Registers, words: &[&[u8]]) -> Result<Call, LineRefused>
     ensures exact { Gives (λ call. (registers.new, call)) result (set_line registers.old (map (λ word. word.now) words.now)) }
     ensures lawful { IfOk result (λ call. IsTrue (is_thread_line call)) }
 {
@@ -100,13 +133,9 @@ fn watched(words: &[&[u8]]) -> Result<(Events, u64), LineRefused>
     }
 }
 
-/// `add H H MASK COOKIE`
+// `add H H MASK COOKIE`
 #[tactic(auto, unfolding(crate::specs::Calls::add_line))]
-pub fn add_line(
-    alloc: Global,
-    registers: &mut Registers,
-    words: &[&[u8]],
-) -> Result<Call, LineRefused>
+fn add_line(alloc: Global, registers: &mut Registers, words: &[&[u8]]) -> Result<Call, LineRefused>
     ensures exact { Gives (λ call. (registers.new, call)) result (add_line registers.old (map (λ word. word.now) words.now)) }
     ensures lawful { IfOk result (λ call. IsTrue (is_thread_line call)) }
 {
@@ -126,13 +155,9 @@ pub fn add_line(
     }
 }
 
-/// `del H H`
+// `del H H`
 #[tactic(auto, unfolding(crate::specs::Calls::del_line))]
-pub fn del_line(
-    alloc: Global,
-    registers: &mut Registers,
-    words: &[&[u8]],
-) -> Result<Call, LineRefused>
+fn del_line(alloc: Global, registers: &mut Registers, words: &[&[u8]]) -> Result<Call, LineRefused>
     ensures exact { Gives (λ call. (registers.new, call)) result (del_line registers.old (map (λ word. word.now) words.now)) }
     ensures lawful { IfOk result (λ call. IsTrue (is_thread_line call)) }
 {
@@ -146,13 +171,9 @@ pub fn del_line(
     }
 }
 
-/// `mod H H MASK COOKIE`
+// `mod H H MASK COOKIE`
 #[tactic(auto, unfolding(crate::specs::Calls::mod_line))]
-pub fn mod_line(
-    alloc: Global,
-    registers: &mut Registers,
-    words: &[&[u8]],
-) -> Result<Call, LineRefused>
+fn mod_line(alloc: Global, registers: &mut Registers, words: &[&[u8]]) -> Result<Call, LineRefused>
     ensures exact { Gives (λ call. (registers.new, call)) result (mod_line registers.old (map (λ word. word.now) words.now)) }
     ensures lawful { IfOk result (λ call. IsTrue (is_thread_line call)) }
 {
@@ -169,5 +190,27 @@ pub fn mod_line(
             })
         }
         _ => Err(Fault(BadWords)),
+    }
+}
+
+/// What the line with this first word calls.
+#[tactic(auto, unfolding(crate::specs::Calls::any_handle_line))]
+pub fn any_handle_line(
+    alloc: Global,
+    registers: &mut Registers,
+    word: HandleWord,
+    words: &[&[u8]],
+) -> Result<Call, LineRefused>
+    ensures exact { Gives (λ call. (registers.new, call)) result (any_handle_line registers.old word (map (λ word. word.now) words.now)) }
+    ensures lawful { IfOk result (λ call. IsTrue (is_thread_line call)) }
+{
+    match word {
+        HandleWord::Cookie => cookie_line(alloc, registers, words),
+        HandleWord::Close => close_line(alloc, registers, words),
+        HandleWord::Dup => dup_line(alloc, registers, words),
+        HandleWord::Set => set_line(alloc, registers, words),
+        HandleWord::Add => add_line(alloc, registers, words),
+        HandleWord::Del => del_line(alloc, registers, words),
+        HandleWord::Mod => mod_line(alloc, registers, words),
     }
 }

@@ -1,8 +1,12 @@
 //! Which word begins a line.
 
 ghost use Rattle.std.specs.Prelude.{◌≡◌};
-ghost use Rattle.script_lines.specs.LineWords.{part_word, structure_word, port_word, message_word, handle_word, memory_word, thread_word, client_word, script_word, line_word};
+ghost use Rattle.script_lines.specs.LineWords.{part_word, structure_word, thread_word, client_word, script_word, line_word};
 
+use crate::command_lines::port_word;
+use crate::handle_lines::handle_word;
+use crate::memory_lines::memory_word;
+use crate::message_lines::message_word;
 use crate::words::{CallWord, ClientWord, LineWord, PartWord, ScriptWord};
 
 // What a scene is made of.
@@ -42,112 +46,24 @@ fn structure_word(word: &[u8]) -> Option<ScriptWord>
     None
 }
 
-// Ports and waits.
-#[tactic(auto, unfolding(crate::specs::LineWords::port_word))]
-fn port_word(word: &[u8]) -> Option<CallWord>
-    ensures { result ≡ port_word word.now }
-{
-    if word == b"port".as_slice() {
-        return Some(CallWord::Port);
-    }
-    if word == b"connect".as_slice() {
-        return Some(CallWord::Connect);
-    }
-    if word == b"accept".as_slice() {
-        return Some(CallWord::Accept);
-    }
-    if word == b"wait".as_slice() {
-        return Some(CallWord::Wait);
-    }
-    if word == b"waitany".as_slice() {
-        return Some(CallWord::WaitAny);
-    }
-    None
-}
-
-// Messages.
-#[tactic(auto, unfolding(crate::specs::LineWords::message_word))]
-fn message_word(word: &[u8]) -> Option<CallWord>
-    ensures { result ≡ message_word word.now }
-{
-    if word == b"send".as_slice() {
-        return Some(CallWord::Send);
-    }
-    if word == b"get".as_slice() {
-        return Some(CallWord::Get);
-    }
-    if word == b"read".as_slice() {
-        return Some(CallWord::Read);
-    }
-    if word == b"put".as_slice() {
-        return Some(CallWord::Put);
-    }
-    None
-}
-
-// Handles and their sets.
-#[tactic(auto, unfolding(crate::specs::LineWords::handle_word))]
-fn handle_word(word: &[u8]) -> Option<CallWord>
-    ensures { result ≡ handle_word word.now }
-{
-    if word == b"cookie".as_slice() {
-        return Some(CallWord::Cookie);
-    }
-    if word == b"close".as_slice() {
-        return Some(CallWord::Close);
-    }
-    if word == b"dup".as_slice() {
-        return Some(CallWord::Dup);
-    }
-    if word == b"set".as_slice() {
-        return Some(CallWord::Set);
-    }
-    if word == b"add".as_slice() {
-        return Some(CallWord::Add);
-    }
-    if word == b"del".as_slice() {
-        return Some(CallWord::Del);
-    }
-    if word == b"mod".as_slice() {
-        return Some(CallWord::Mod);
-    }
-    None
-}
-
-// Memory, and the end.
-#[tactic(auto, unfolding(crate::specs::LineWords::memory_word))]
-fn memory_word(word: &[u8]) -> Option<CallWord>
-    ensures { result ≡ memory_word word.now }
-{
-    if word == b"memref".as_slice() {
-        return Some(CallWord::Memref);
-    }
-    if word == b"mread".as_slice() {
-        return Some(CallWord::MemRead);
-    }
-    if word == b"mwrite".as_slice() {
-        return Some(CallWord::MemWrite);
-    }
-    if word == b"exit".as_slice() {
-        return Some(CallWord::Exit);
-    }
-    None
-}
-
+// The lines of a thread's script.
 #[tactic(auto, unfolding(crate::specs::LineWords::thread_word))]
 fn thread_word(word: &[u8]) -> Option<CallWord>
     ensures { result ≡ thread_word word.now }
 {
     if let Some(found) = port_word(word) {
-        return Some(found);
+        return Some(CallWord::Port(found));
     }
     if let Some(found) = message_word(word) {
-        return Some(found);
+        return Some(CallWord::Message(found));
     }
     if let Some(found) = handle_word(word) {
-        return Some(found);
+        return Some(CallWord::Handle(found));
     }
-    memory_word(word)
+    match memory_word(word) {
+        Some(found) => Some(CallWord::Memory(found)),
+        None => None,
+    }
 }
 
 // The lines of a client's script.

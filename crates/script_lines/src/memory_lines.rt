@@ -2,7 +2,7 @@
 
 ghost use Rattle.std.specs.Prelude.{◌≡◌, IfOk, IsTrue, map};
 ghost use Rattle.script_lines.specs.Gives.{Gives};
-ghost use Rattle.script_lines.specs.Calls.{is_thread_line, memref_line, mread_line, mwrite_line};
+ghost use Rattle.script_lines.specs.Calls.{is_thread_line, memory_word, any_memory_line, memref_line, mread_line, mwrite_line};
 
 use crate::fault::LineRefused::{self, Fault};
 use crate::fault::SceneKind::BadWords;
@@ -12,9 +12,34 @@ use crate::registers::{Registers, as_one, hand};
 use kernel_values::Call;
 use std::alloc::Global;
 
-/// `memref SIZE FLAGS [as REG]`
+/// The lines on memory references.
+#[derive(Clone, Copy)]
+pub enum MemoryWord {
+    Create,
+    Read,
+    Write,
+}
+
+/// Which of these lines the word begins, if any.
+#[tactic(auto, unfolding(crate::specs::Calls::memory_word))]
+pub fn memory_word(word: &[u8]) -> Option<MemoryWord>
+    ensures { result ≡ memory_word word.now }
+{
+    if word == b"memref".as_slice() {
+        return Some(MemoryWord::Create);
+    }
+    if word == b"mread".as_slice() {
+        return Some(MemoryWord::Read);
+    }
+    if word == b"mwrite".as_slice() {
+        return Some(MemoryWord::Write);
+    }
+    None
+}
+
+// `memref SIZE FLAGS [as REG]`
 #[tactic(auto, unfolding(crate::specs::Calls::memref_line))]
-pub fn memref_line(
+fn memref_line(
     alloc: Global,
     registers: &mut Registers,
     words: &[&[u8]],
@@ -33,9 +58,9 @@ pub fn memref_line(
     }
 }
 
-/// `mread H OFFSET LEN`
+// `mread H OFFSET LEN`
 #[tactic(auto, unfolding(crate::specs::Calls::mread_line))]
-pub fn mread_line(
+fn mread_line(
     alloc: Global,
     registers: &mut Registers,
     words: &[&[u8]],
@@ -58,9 +83,9 @@ pub fn mread_line(
     }
 }
 
-/// `mwrite H OFFSET BYTES`
+// `mwrite H OFFSET BYTES`
 #[tactic(auto, unfolding(crate::specs::Calls::mwrite_line))]
-pub fn mwrite_line(
+fn mwrite_line(
     alloc: Global,
     registers: &mut Registers,
     words: &[&[u8]],
@@ -80,5 +105,23 @@ pub fn mwrite_line(
             })
         }
         _ => Err(Fault(BadWords)),
+    }
+}
+
+/// What the line with this first word calls.
+#[tactic(auto, unfolding(crate::specs::Calls::any_memory_line))]
+pub fn any_memory_line(
+    alloc: Global,
+    registers: &mut Registers,
+    word: MemoryWord,
+    words: &[&[u8]],
+) -> Result<Call, LineRefused>
+    ensures exact { Gives (λ call. (registers.new, call)) result (any_memory_line registers.old word (map (λ word. word.now) words.now)) }
+    ensures lawful { IfOk result (λ call. IsTrue (is_thread_line call)) }
+{
+    match word {
+        MemoryWord::Create => memref_line(alloc, registers, words),
+        MemoryWord::Read => mread_line(alloc, registers, words),
+        MemoryWord::Write => mwrite_line(alloc, registers, words),
     }
 }

@@ -1,28 +1,17 @@
 //! The words that begin a line.
 
-/// The lines of a thread's script.
+use crate::command_lines::PortWord;
+use crate::handle_lines::HandleWord;
+use crate::memory_lines::MemoryWord;
+use crate::message_lines::MessageWord;
+
+/// The lines of a thread's script, by their subject.
 #[derive(Clone, Copy)]
 pub enum CallWord {
-    Port,
-    Connect,
-    Accept,
-    Wait,
-    WaitAny,
-    Send,
-    Get,
-    Read,
-    Put,
-    Cookie,
-    Close,
-    Dup,
-    Set,
-    Add,
-    Del,
-    Mod,
-    Memref,
-    MemRead,
-    MemWrite,
-    Exit,
+    Port(PortWord),
+    Message(MessageWord),
+    Handle(HandleWord),
+    Memory(MemoryWord),
 }
 
 /// The lines of a client's script.

@@ -40,37 +40,26 @@ KnowsMembers P members = AllByRecursion (λ member. P member.object) members
 abbrev pub KnowsMessages : (ℕ → Type 0) → List Message → Type 0
 KnowsMessages P messages = AllByRecursion (λ message. Knows P message.parts) messages
 
-abbrev pub KnowsBody : (ℕ → Type 0) → Body → Type 0
-KnowsBody P b = Knows P (named_in b)
+-- what sets and messages name, and what a port keeps
+abbrev pub BodyApart : (P Q : ℕ → Type 0) → Body → Type 0
+BodyApart P Q (body.Port port) = Knows Q port.pending
+BodyApart P Q b = Knows P (named_in b)
 
--- it is known of every number that the state names
-pub record Known (P : ℕ → Type 0) (c : CoreState) : Type 0 where
+-- P is known of every number that tables, waits, sets and messages name, and Q of every one that the bridge or a port keeps
+pub record KnownApart (P Q : ℕ → Type 0) (c : CoreState) : Type 0 where
   pub tables : AllByRecursion (λ app. KnowsTable P app.table) c.apps
-  pub bridged : Knows P c.bridged
+  pub bridged : Knows Q c.bridged
   pub waits : AllByRecursion (λ thread. KnowsNames P (activity_names thread.activity)) c.threads
-  pub objects : AllByRecursion (λ object. KnowsBody P object.body) c.objects
+  pub objects : AllByRecursion (λ object. BodyApart P Q object.body) c.objects
+
+-- the same is known of both: of every number that the state names
+abbrev pub KnowsBody : (ℕ → Type 0) → Body → Type 0
+KnowsBody P b = BodyApart P P b
+
+abbrev pub Known : (ℕ → Type 0) → CoreState → Type 0
+Known P c = KnownApart P P c
 
 module _ (P : ℕ → Type 0) where
-  -- What bodies and tables name.
-
-  end_in_known : (b : Body) → KnowsBody P b → IfThere (λ (end : ChannelEnd). KnowsMessages P end.messages) (end_in b)
-  end_in_known (body.Port port) is_known = tt
-  end_in_known (body.End end) is_known = all_unflat P (λ (m : Message). m.parts) end.messages is_known
-  end_in_known (body.Set set) is_known = tt
-  end_in_known (body.Memory memory) is_known = tt
-
-  port_in_known : (b : Body) → KnowsBody P b → IfThere (λ (port : Port). Knows P port.pending) (port_in b)
-  port_in_known (body.Port port) is_known = is_known
-  port_in_known (body.End end) is_known = tt
-  port_in_known (body.Set set) is_known = tt
-  port_in_known (body.Memory memory) is_known = tt
-
-  set_in_known : (b : Body) → KnowsBody P b → IfThere (λ (set : HandleSet). KnowsMembers P set.members) (set_in b)
-  set_in_known (body.Port port) is_known = tt
-  set_in_known (body.End end) is_known = tt
-  set_in_known (body.Set set) is_known = all_unmapped P (λ (m : Member). m.object) set.members is_known
-  set_in_known (body.Memory memory) is_known = tt
-
   pub installed_known : (table : List TableEntry) (object : ℕ) → P object → KnowsTable P table → KnowsTable P (installed table object)
   installed_known table object is_known all =
       let E : TableEntry → Type 0 = λ entry. P entry.object in
@@ -78,14 +67,47 @@ module _ (P : ℕ → Type 0) where
       let at : ℕ = position_or_len (λ e. nat_lt handle e.handle) table in
       all_appended E (take at table) ((record { handle = handle; object = object; cookie = 0 }) ∷ drop at table) (all_taken E at table all) (is_known, all_dropped E at table all)
 
-  pub on_port_known : (change : Port → Port) → ((port : Port) → Knows P port.pending → Knows P (change port).pending) → (b : Body) → KnowsBody P b → KnowsBody P (on_port change b)
+  names_body : (b : Body) → Knows P (named_in b) → KnowsBody P b
+  names_body (body.Port port) is_known = is_known
+  names_body (body.End end) is_known = is_known
+  names_body (body.Set set) is_known = is_known
+  names_body (body.Memory memory) is_known = is_known
+
+  body_names : (b : Body) → KnowsBody P b → Knows P (named_in b)
+  body_names (body.Port port) is_known = is_known
+  body_names (body.End end) is_known = is_known
+  body_names (body.Set set) is_known = is_known
+  body_names (body.Memory memory) is_known = is_known
+
+module _ (P Q : ℕ → Type 0) where
+  -- What bodies name.
+
+  end_in_known : (b : Body) → BodyApart P Q b → IfThere (λ (end : ChannelEnd). KnowsMessages P end.messages) (end_in b)
+  end_in_known (body.Port port) is_known = tt
+  end_in_known (body.End end) is_known = all_unflat P (λ (m : Message). m.parts) end.messages is_known
+  end_in_known (body.Set set) is_known = tt
+  end_in_known (body.Memory memory) is_known = tt
+
+  port_in_known : (b : Body) → BodyApart P Q b → IfThere (λ (port : Port). Knows Q port.pending) (port_in b)
+  port_in_known (body.Port port) is_known = is_known
+  port_in_known (body.End end) is_known = tt
+  port_in_known (body.Set set) is_known = tt
+  port_in_known (body.Memory memory) is_known = tt
+
+  set_in_known : (b : Body) → BodyApart P Q b → IfThere (λ (set : HandleSet). KnowsMembers P set.members) (set_in b)
+  set_in_known (body.Port port) is_known = tt
+  set_in_known (body.End end) is_known = tt
+  set_in_known (body.Set set) is_known = all_unmapped P (λ (m : Member). m.object) set.members is_known
+  set_in_known (body.Memory memory) is_known = tt
+
+  pub on_port_known : (change : Port → Port) → ((port : Port) → Knows Q port.pending → Knows Q (change port).pending) → (b : Body) → BodyApart P Q b → BodyApart P Q (on_port change b)
   on_port_known change keeps (body.Port port) is_known = keeps port is_known
   on_port_known change keeps (body.End end) is_known = is_known
   on_port_known change keeps (body.Set set) is_known = is_known
   on_port_known change keeps (body.Memory memory) is_known = is_known
 
   pub on_end_known : (change : ChannelEnd → ChannelEnd) → ((end : ChannelEnd) → KnowsMessages P end.messages → KnowsMessages P (change end).messages)
-      → (b : Body) → KnowsBody P b → KnowsBody P (on_end change b)
+      → (b : Body) → BodyApart P Q b → BodyApart P Q (on_end change b)
   on_end_known change keeps (body.Port port) is_known = is_known
   on_end_known change keeps (body.End end) is_known =
       let parts : Message → List ℕ = λ m. m.parts in
@@ -94,7 +116,7 @@ module _ (P : ℕ → Type 0) where
   on_end_known change keeps (body.Memory memory) is_known = is_known
 
   pub on_set_known : (change : HandleSet → HandleSet) → ((set : HandleSet) → KnowsMembers P set.members → KnowsMembers P (change set).members)
-      → (b : Body) → KnowsBody P b → KnowsBody P (on_set change b)
+      → (b : Body) → BodyApart P Q b → BodyApart P Q (on_set change b)
   on_set_known change keeps (body.Port port) is_known = is_known
   on_set_known change keeps (body.End end) is_known = is_known
   on_set_known change keeps (body.Set set) is_known =
@@ -102,48 +124,48 @@ module _ (P : ℕ → Type 0) where
       (keeps set (all_unmapped P (λ (m : Member). m.object) set.members is_known))
   on_set_known change keeps (body.Memory memory) is_known = is_known
 
-  pub on_memory_known : (change : MemoryRef → MemoryRef) → (b : Body) → KnowsBody P b → KnowsBody P (on_memory change b)
+  pub on_memory_known : (change : MemoryRef → MemoryRef) → (b : Body) → BodyApart P Q b → BodyApart P Q (on_memory change b)
   on_memory_known change (body.Port port) is_known = is_known
   on_memory_known change (body.End end) is_known = is_known
   on_memory_known change (body.Set set) is_known = is_known
   on_memory_known change (body.Memory memory) is_known = is_known
 
-module _ (P : ℕ → Type 0) (c : CoreState) (k : Known P c) where
+module _ (P Q : ℕ → Type 0) (c : CoreState) (k : KnownApart P Q c) where
   -- What is read.
 
   pub table_known : (app : ℕ) → KnowsTable P (table_of c app)
   table_known app =
-      let Q : Option Application → Type 0 = λ o. IfThere (λ (a : Application). KnowsTable P a.table) o → KnowsTable P (table_in o) in
-      let go : (o : Option Application) → Q o = λ o. elim o as (λ v. Q v) [ None ↦ (λ is. tt) | Some a ↦ (λ is. is) ] in
+      let R : Option Application → Type 0 = λ o. IfThere (λ (a : Application). KnowsTable P a.table) o → KnowsTable P (table_in o) in
+      let go : (o : Option Application) → R o = λ o. elim o as (λ v. R v) [ None ↦ (λ is. tt) | Some a ↦ (λ is. is) ] in
       go (slice_get c.apps app) (all_get (λ (a : Application). KnowsTable P a.table) c.apps app k.tables)
 
   pub entry_known : (app handle : ℕ) → IfThere (λ (entry : TableEntry). P entry.object) (entry_at (table_of c app) handle)
   entry_known app handle = found_there (λ (entry : TableEntry). P entry.object) (λ entry. entry.handle == handle) (table_of c app) (table_known app)
 
-  body_known : (id : ℕ) → IfThere (λ (object : Object). KnowsBody P object.body) (object_of c.objects id)
-  body_known id = all_get (λ (object : Object). KnowsBody P object.body) c.objects (place_of c.objects id) k.objects
+  body_known : (id : ℕ) → IfThere (λ (object : Object). BodyApart P Q object.body) (object_of c.objects id)
+  body_known id = all_get (λ (object : Object). BodyApart P Q object.body) c.objects (place_of c.objects id) k.objects
 
   pub end_known : (id : ℕ) → IfThere (λ (end : ChannelEnd). KnowsMessages P end.messages) (end_of c.objects id)
   end_known id =
-      let Q : Option Object → Type 0 = λ o. IfThere (λ (object : Object). KnowsBody P object.body) o → IfThere (λ (end : ChannelEnd). KnowsMessages P end.messages) (as_end o) in
-      let go : (o : Option Object) → Q o = λ o. elim o as (λ v. Q v) [ None ↦ (λ is. tt) | Some object ↦ (λ is. end_in_known P object.body is) ] in
+      let R : Option Object → Type 0 = λ o. IfThere (λ (object : Object). BodyApart P Q object.body) o → IfThere (λ (end : ChannelEnd). KnowsMessages P end.messages) (as_end o) in
+      let go : (o : Option Object) → R o = λ o. elim o as (λ v. R v) [ None ↦ (λ is. tt) | Some object ↦ (λ is. end_in_known P Q object.body is) ] in
       go (object_of c.objects id) (body_known id)
 
-  pub port_known : (id : ℕ) → IfThere (λ (port : Port). Knows P port.pending) (port_of c.objects id)
+  pub port_known : (id : ℕ) → IfThere (λ (port : Port). Knows Q port.pending) (port_of c.objects id)
   port_known id =
-      let Q : Option Object → Type 0 = λ o. IfThere (λ (object : Object). KnowsBody P object.body) o → IfThere (λ (port : Port). Knows P port.pending) (as_port o) in
-      let go : (o : Option Object) → Q o = λ o. elim o as (λ v. Q v) [ None ↦ (λ is. tt) | Some object ↦ (λ is. port_in_known P object.body is) ] in
+      let R : Option Object → Type 0 = λ o. IfThere (λ (object : Object). BodyApart P Q object.body) o → IfThere (λ (port : Port). Knows Q port.pending) (as_port o) in
+      let go : (o : Option Object) → R o = λ o. elim o as (λ v. R v) [ None ↦ (λ is. tt) | Some object ↦ (λ is. port_in_known P Q object.body is) ] in
       go (object_of c.objects id) (body_known id)
 
   pub set_known : (id : ℕ) → IfThere (λ (set : HandleSet). KnowsMembers P set.members) (set_of c.objects id)
   set_known id =
-      let Q : Option Object → Type 0 = λ o. IfThere (λ (object : Object). KnowsBody P object.body) o → IfThere (λ (set : HandleSet). KnowsMembers P set.members) (as_set o) in
-      let go : (o : Option Object) → Q o = λ o. elim o as (λ v. Q v) [ None ↦ (λ is. tt) | Some object ↦ (λ is. set_in_known P object.body is) ] in
+      let R : Option Object → Type 0 = λ o. IfThere (λ (object : Object). BodyApart P Q object.body) o → IfThere (λ (set : HandleSet). KnowsMembers P set.members) (as_set o) in
+      let go : (o : Option Object) → R o = λ o. elim o as (λ v. R v) [ None ↦ (λ is. tt) | Some object ↦ (λ is. set_in_known P Q object.body is) ] in
       go (object_of c.objects id) (body_known id)
 
   -- What is changed.
 
-  pub tabled : (change : List TableEntry → List TableEntry) → ((table : List TableEntry) → KnowsTable P table → KnowsTable P (change table)) → (app : ℕ) → Known P (with_table change app c)
+  pub tabled : (change : List TableEntry → List TableEntry) → ((table : List TableEntry) → KnowsTable P table → KnowsTable P (change table)) → (app : ℕ) → KnownApart P Q (with_table change app c)
   tabled change keeps app = record {
     tables = all_map_at (λ (a : Application). KnowsTable P a.table) (table_changed change) (λ a is_known. keeps a.table is_known) c.apps app k.tables;
     bridged = k.bridged;
@@ -151,10 +173,10 @@ module _ (P : ℕ → Type 0) (c : CoreState) (k : Known P c) where
     objects = k.objects;
   }
 
-  pub installs : (app object : ℕ) → P object → Known P (install app object c)
+  pub installs : (app object : ℕ) → P object → KnownApart P Q (install app object c)
   installs app object is_known = tabled (λ table. installed table object) (λ table all. installed_known P table object is_known all) app
 
-  pub acted : (change : Activity → Activity) → ((a : Activity) → KnowsNames P (activity_names a) → KnowsNames P (activity_names (change a))) → (thread : ℕ) → Known P (with_activity change thread c)
+  pub acted : (change : Activity → Activity) → ((a : Activity) → KnowsNames P (activity_names a) → KnowsNames P (activity_names (change a))) → (thread : ℕ) → KnownApart P Q (with_activity change thread c)
   acted change keeps thread = record {
     tables = k.tables;
     bridged = k.bridged;
@@ -162,14 +184,29 @@ module _ (P : ℕ → Type 0) (c : CoreState) (k : Known P c) where
     objects = k.objects;
   }
 
-  pub changed_one : (f : Body → Body) → ((b : Body) → KnowsBody P b → KnowsBody P (f b)) → (id : ℕ) → Known P (with_objects (changed f c.objects id) c)
+  pub changed_one : (f : Body → Body) → ((b : Body) → BodyApart P Q b → BodyApart P Q (f b)) → (id : ℕ) → KnownApart P Q (with_objects (changed f c.objects id) c)
   changed_one f keeps id = record {
     tables = k.tables;
     bridged = k.bridged;
     waits = k.waits;
-    objects = all_map_at (λ (o : Object). KnowsBody P o.body) (on_body f) (λ o is_known. keeps o.body is_known) c.objects (place_of c.objects id) k.objects;
+    objects = all_map_at (λ (o : Object). BodyApart P Q o.body) (on_body f) (λ o is_known. keeps o.body is_known) c.objects (place_of c.objects id) k.objects;
   }
 
+  pub with_more : (more : List Object) → AllByRecursion (λ object. BodyApart P Q object.body) more → KnownApart P Q (with_objects (c.objects ++ more) c)
+  with_more more all = record {
+    tables = k.tables;
+    bridged = k.bridged;
+    waits = k.waits;
+    objects = all_appended (λ (o : Object). BodyApart P Q o.body) c.objects more k.objects all;
+  }
+
+-- one more object
+pub added_known : (P Q : ℕ → Type 0) (c : CoreState) → KnownApart P Q c → (b : Body) → BodyApart P Q b → KnownApart P Q (added b c)
+added_known P Q c k b is_known =
+    let more : KnownApart P Q _ = with_more P Q c k ((record { id = c.next; body = b }) ∷ []) (is_known, tt) in
+    record { tables = more.tables; bridged = more.bridged; waits = more.waits; objects = more.objects }
+
+module _ (P : ℕ → Type 0) (c : CoreState) (k : Known P c) where
   pub weaker : (Q : ℕ → Type 0) → ((x : ℕ) → P x → Q x) → Known Q c
   weaker Q up = record {
     tables = all_weaker (λ (a : Application). KnowsTable P a.table) (λ (a : Application). KnowsTable Q a.table)
@@ -177,22 +214,9 @@ module _ (P : ℕ → Type 0) (c : CoreState) (k : Known P c) where
     bridged = all_weaker P Q up c.bridged k.bridged;
     waits = all_weaker (λ (t : Thread). KnowsNames P (activity_names t.activity)) (λ (t : Thread). KnowsNames Q (activity_names t.activity))
         (λ t all. all_weaker (λ (e : Name). P e.object) (λ (e : Name). Q e.object) (λ e is. up e.object is) (activity_names t.activity) all) c.threads k.waits;
-    objects = all_weaker (λ (o : Object). KnowsBody P o.body) (λ (o : Object). KnowsBody Q o.body) (λ o all. all_weaker P Q up (named_in o.body) all) c.objects k.objects;
+    objects = all_weaker (λ (o : Object). KnowsBody P o.body) (λ (o : Object). KnowsBody Q o.body)
+        (λ o all. names_body Q o.body (all_weaker P Q up (named_in o.body) (body_names P o.body all))) c.objects k.objects;
   }
-
-  pub with_more : (more : List Object) → AllByRecursion (λ object. KnowsBody P object.body) more → Known P (with_objects (c.objects ++ more) c)
-  with_more more all = record {
-    tables = k.tables;
-    bridged = k.bridged;
-    waits = k.waits;
-    objects = all_appended (λ (o : Object). KnowsBody P o.body) c.objects more k.objects all;
-  }
-
--- one more object
-pub added_known : (P : ℕ → Type 0) (c : CoreState) → Known P c → (b : Body) → KnowsBody P b → Known P (added b c)
-added_known P c k b is_known =
-    let more : Known P _ = with_more P c k ((record { id = c.next; body = b }) ∷ []) (is_known, tt) in
-    record { tables = more.tables; bridged = more.bridged; waits = more.waits; objects = more.objects }
 
 -- The same, of the entries that name objects as one list.
 
@@ -224,7 +248,7 @@ module _ (P : ℕ → Type 0) (c : CoreState) where
         bridged = all_unmapped KnowsName root c.bridged (all_last KnowsName in_tables in_bridge first);
         waits = all_unflat KnowsName wait_names c.threads (all_last KnowsName (in_tables ++ in_bridge) in_waits roots);
         objects = all_weaker (λ (o : Object). AllByRecursion KnowsName (object_names o)) (λ (o : Object). KnowsBody P o.body)
-            (λ o names. all_unmapped KnowsName (held_by o.id) (named_in o.body) names) c.objects
+            (λ o names. names_body P o.body (all_unmapped KnowsName (held_by o.id) (named_in o.body) names)) c.objects
             (all_unflat KnowsName object_names c.objects (all_last KnowsName (in_tables ++ in_bridge ++ in_waits) in_objects all));
       }
 
@@ -238,6 +262,6 @@ module _ (P : ℕ → Type 0) (c : CoreState) where
       let waits : AllByRecursion KnowsName in_waits = all_flat KnowsName wait_names c.threads k.waits in
       let objects : AllByRecursion KnowsName in_objects =
       all_flat KnowsName object_names c.objects (all_weaker (λ (o : Object). KnowsBody P o.body) (λ (o : Object). AllByRecursion KnowsName (object_names o))
-      (λ o all. all_mapped P KnowsName (held_by o.id) (λ x is. is) (named_in o.body) all) c.objects k.objects) in
+      (λ o all. all_mapped P KnowsName (held_by o.id) (λ x is. is) (named_in o.body) (body_names P o.body all)) c.objects k.objects) in
       all_appended KnowsName (in_tables ++ in_bridge ++ in_waits) in_objects
       (all_appended KnowsName (in_tables ++ in_bridge) in_waits (all_appended KnowsName in_tables in_bridge tables bridge) waits) objects

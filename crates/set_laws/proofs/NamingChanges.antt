@@ -122,19 +122,19 @@ swept_names c k =
     let seen : List ℕ = reached c in
     let prune : Port → Port = pruned_port seen c.objects in
     let less : CoreState = pruned seen c in
-    let cut : Known P less = changed_all P c k (on_body (on_port prune)) (λ o below. on_port_known P prune
+    let cut : Known P less = changed_all P c k (on_body (on_port prune)) (λ o below. on_port_known P P prune
     (λ p all. all_filtered P (λ server. has_marked_peer seen (end_of c.objects server)) p.pending all) o.body below) in
     let marked : List ℕ = reached less in
     let there : CoreState = with_objects (filter (λ object. is_in marked object.id) less.objects) less in
     let few : Known P there = fewer P less cut (λ object. is_in marked object.id) in
-    changed_all P there few (on_body (on_end (cut_end marked))) (λ o below. on_end_known P (cut_end marked) (λ e all. all) o.body below)
+    changed_all P there few (on_body (on_end (cut_end marked))) (λ o below. on_end_known P P (cut_end marked) (λ e all. all) o.body below)
 
 naming_given : Invariant
 naming_given = record {
   holds = Given;
   small = λ by c k made change. small_names by c k change;
   call = thread_names;
-  resumed = λ thread c k. acted (λ x. x < c.next) c k running_activity (running_known (λ x. x < c.next)) thread;
+  resumed = λ thread c k. acted (λ x. x < c.next) (λ x. x < c.next) c k running_activity (running_known (λ x. x < c.next)) thread;
   served = λ place c k. started_names place c k;
   bridged = λ end c k given. bridging_known (λ x. x < c.next) c k end given.given;
   unbridged = λ end c k. unbridged_known (λ x. x < c.next) c k end;

@@ -64,8 +64,8 @@ in_set n b (Some set) all is = in_members n b set.members all is
 
 pub given_numbers : (c : CoreState) → Given c → NamesGivenNumbers c
 given_numbers c k = record {
-  entries = λ app handle entry is. all_find (λ (e : TableEntry). e.object < c.next) (λ e. e.handle == handle) (table_of c app) (table_known (λ x. x < c.next) c k app) entry is;
-  members = λ set member holds. in_set c.next member (set_of c.objects set) (set_known (λ x. x < c.next) c k set) holds;
+  entries = λ app handle entry is. all_find (λ (e : TableEntry). e.object < c.next) (λ e. e.handle == handle) (table_of c app) (table_known (λ x. x < c.next) (λ x. x < c.next) c k app) entry is;
+  members = λ set member holds. in_set c.next member (set_of c.objects set) (set_known (λ x. x < c.next) (λ x. x < c.next) c k set) holds;
 }
 
 -- Openings.
