@@ -1,5 +1,5 @@
 -- Looking so many sets deep finds what is reached over memberships, since no chain has more than 8 sets.
-use Rattle.std.proofs.Common.{◌≡◌, ◌⊎◌, ℕ, zero, suc, ◌+◌, ◌-◌, ◌<◌, ◌≤◌, ◌==◌, ◌||◌, Bool, true, false, List, [], ◌∷◌, ◌++◌, map, slice_get, Option, Some, None, refl, sym, ap, ◌∙◌, inl, inr, arith, eq-eqb, subst}
+use Rattle.std.proofs.Common.{◌≡◌, ◌⊎◌, ℕ, zero, suc, ◌+◌, ◌-◌, ◌<◌, ◌≤◌, ◌==◌, ◌||◌, Bool, true, false, List, [], ◌∷◌, map, slice_get, Option, Some, None, refl, sym, ap, ◌∙◌, inl, inr, arith, eq-eqb, subst}
 use Rattle.std.specs.List.{list_any}
 use Rattle.std.proofs.lemmas.Bool.Decides.{nat_tests}
 use Rattle.kernel_types.specs.Names.{Name, root, held_by}
@@ -9,6 +9,7 @@ use Rattle.kernel_types.specs.Reach.Reached.{by_root, by_holder}
 use Rattle.kernel_types.specs.Sets.{is_or_contains, members_of, memberships, membership_names}
 use Rattle.kernel_types.proofs.Reaching.{marked_is_reached}
 use Rattle.set_laws.specs.Chains.{HasMember}
+use Rattle.set_laws.proofs.Joined.{among_left, among_right, among_split}
 use Rattle.handle_set.specs.declared.records.TrackedMember.{TrackedMember}
 use Rattle.handle_set.specs.declared.settle.OpenSet.{OpenSet}
 use Rattle.handle_set.specs.Chains.{object_value, objects_in, objects_of}
@@ -21,20 +22,6 @@ equal : (a b : ℕ) → (a == b) ≡ true → a ≡ b
 equal a b is = grind (arith, nat_tests)
 
 -- what the memberships name
-
-among_left : (name : Name) (xs ys : List Name) → Among name xs → Among name (xs ++ ys)
-among_left name [] ys among = absurd among
-among_left name (x ∷ xs) ys (inl same) = inl same
-among_left name (x ∷ xs) ys (inr more) = inr (among_left name xs ys more)
-
-among_right : (name : Name) (xs ys : List Name) → Among name ys → Among name (xs ++ ys)
-among_right name [] ys among = among
-among_right name (x ∷ xs) ys among = inr (among_right name xs ys among)
-
-among_either : (name : Name) (xs ys : List Name) → Among name (xs ++ ys) → Among name xs ⊎ Among name ys
-among_either name [] ys among = inr among
-among_either name (x ∷ xs) ys (inl same) = inl (inl same)
-among_either name (x ∷ xs) ys (inr more) = elim (among_either name xs ys more) [ inl first ↦ inl (inr first) | inr second ↦ inr second ]
 
 named : (holder : ℕ) (members : List TrackedMember) (j : ℕ) (told : TrackedMember) → slice_get members j ≡ Some told → Among (held_by holder told.object.serial) (map (held_by holder) (objects_in members))
 named holder [] j told here = absurd (cc)
@@ -59,7 +46,7 @@ member_named holder outer inner (x ∷ xs) (inr more) = let r = member_named hol
 
 held_among : (sets : List OpenSet) (outer inner : ℕ) → Among (held_by outer inner) (memberships (objects_of sets)) → Holds sets outer inner
 held_among [] outer inner among = absurd among
-held_among (x ∷ xs) outer inner among = elim (among_either (held_by outer inner) (membership_names (object_value x)) (memberships (objects_of xs)) among) [
+held_among (x ∷ xs) outer inner among = elim (among_split (held_by outer inner) (membership_names (object_value x)) (memberships (objects_of xs)) among) [
   | inl first ↦
       let m = member_named x.id outer inner x.members first in
       record { set = x; stands = record { place = 0; here = refl; same = m.0 }; has = m.1 }
@@ -73,7 +60,7 @@ not_held holder a b n is same = let bad : Some a ≡ None = sym is ∙ ap (λ (m
 
 no_root : (object : ℕ) (sets : List OpenSet) → Among (root object) (memberships (objects_of sets)) → ⊥
 no_root object [] among = among
-no_root object (x ∷ xs) among = elim (among_either (root object) (membership_names (object_value x)) (memberships (objects_of xs)) among) [
+no_root object (x ∷ xs) among = elim (among_split (root object) (membership_names (object_value x)) (memberships (objects_of xs)) among) [
   | inl first ↦ no_named x.members first
   | inr later ↦ no_root object xs later
 ]
