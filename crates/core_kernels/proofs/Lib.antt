@@ -1,0 +1,3 @@
+pub mod Clientless
+pub mod Orders
+pub mod Statuses
