@@ -1,0 +1,5 @@
+//! Handle sets, reports and waits, written once over what a kernel's core is asked.
+#![tactic(auto)]
+
+pub mod reports;
+pub mod sets;
