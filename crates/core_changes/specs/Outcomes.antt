@@ -24,3 +24,6 @@ told_gives_with reply seqs = record { answer = answer.Gives reply; seqs = seqs }
 
 abbrev pub told_refuses : Errno → CallOutcome
 told_refuses errno = record { answer = answer.Refuses errno; seqs = no_seqs }
+
+abbrev pub told_waits : CallOutcome
+told_waits = record { answer = answer.Waits; seqs = no_seqs }

@@ -3,3 +3,4 @@
 
 pub mod reports;
 pub mod sets;
+pub mod wait_calls;
