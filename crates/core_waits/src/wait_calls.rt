@@ -4,8 +4,8 @@ ghost use Rattle.std.specs.Prelude.{IfOk, OnErr, Some, ◌≡◌};
 ghost use Rattle.kernel_types.specs.Tables.{entry_at, table_of};
 ghost use Rattle.kernel_types.specs.Waits.{begin_wait, deadline_of, is_zero_timeout, wait, wait_any};
 ghost use Rattle.core_changes.specs.Changes.{waited_entry};
-ghost use Rattle.core_changes.specs.Outcomes.{outcome, outcome_if};
-ghost use Rattle.core_waits.specs.AtOnce.{at_once, stays_unless};
+ghost use Rattle.core_changes.specs.Outcomes.{outcome, outcome_if, stays_unless};
+ghost use Rattle.core_waits.specs.AtOnce.{at_once};
 
 use crate::reports::{event_reply, take_report};
 use core_changes::CoreChanges;
