@@ -3,4 +3,6 @@
 
 pub mod reports;
 pub mod sets;
+pub mod step;
 pub mod wait_calls;
+pub mod waits;
