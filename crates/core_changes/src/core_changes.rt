@@ -58,6 +58,10 @@ pub trait CoreChanges {
     fn clock(&self) -> u64
         ensures { result ≡ (state self.now).clock };
 
+    /// All threads.
+    fn threads(&self) -> &[Thread]
+        ensures { result.now ≡ (state self.now).threads };
+
     /// The thread of this number.
     fn thread(&self, thread: u32) -> Option<Thread>
         ensures { result ≡ slice_get (state self.now).threads thread };

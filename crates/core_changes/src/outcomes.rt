@@ -1,7 +1,7 @@
 //! What a call or the end of a wait comes to, beside the state.
 
 ghost use Rattle.std.specs.Prelude.{◌≡◌};
-ghost use Rattle.core_changes.specs.Outcomes.{told_gives, told_gives_with, told_refuses};
+ghost use Rattle.core_changes.specs.Outcomes.{told_gives, told_gives_with, told_refuses, told_waits};
 
 use kernel_values::{Answer, Errno, Reply, Seqs};
 
@@ -41,6 +41,16 @@ pub fn refuses(errno: Errno) -> CallOutcome
 {
     CallOutcome {
         answer: Answer::Refuses(errno),
+        seqs: NO_SEQS,
+    }
+}
+
+/// No answer yet: the thread waits.
+pub fn waits() -> CallOutcome
+    ensures { result ≡ told_waits }
+{
+    CallOutcome {
+        answer: Answer::Waits,
         seqs: NO_SEQS,
     }
 }

@@ -1,3 +1,4 @@
 pub mod Clientless
 pub mod Orders
 pub mod Statuses
+pub mod Unswept
