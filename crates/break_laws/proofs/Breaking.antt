@@ -23,7 +23,8 @@ use Rattle.count_laws.proofs.Dropping.{ends_in_sweep}
 use Rattle.name_laws.proofs.There.{change_there}
 use Rattle.fit_laws.specs.Sweeps.{IsReady}
 use Rattle.fit_laws.proofs.Meeting.{WithPeer, fitting_fits, with_peer}
-use Rattle.fit_laws.proofs.Ready.{IsWell, ready}
+use Rattle.fit_laws.specs.Sweeps.{IsCountable}
+use Rattle.fit_laws.proofs.Ready.{change_countable, ready, swept_countable}
 use Rattle.fit_laws.proofs.Steps.{change_fits}
 use Rattle.break_laws.specs.Breaks.{AreCutOff, is_pending}
 use Rattle.break_laws.specs.Held.{KeepsApart}
@@ -36,30 +37,15 @@ use Rattle.break_laws.proofs.Surviving.{pends_at}
 
 -- What is asked of a state: the objects fit, what is there is named and what is named is there, and the kernel keeps to itself what is its own.
 pub record Stands (c : CoreState) : Type 0 where
-  pub well : IsWell c
+  pub well : IsCountable c
   pub named : AllNamed c
   pub keeps : KeepsApart c
 
-well_marked : (p : ℕ) (c : CoreState) → IsWell c → IsWell (end_changed with_error p c)
-well_marked p c k = record {
-  fits = change_fits None c (by_small None (by_bridge refl) (end_marked mark_error p)) k.fits;
-  there = change_there None c (by_small None (by_bridge refl) (end_marked mark_error p)) k.there;
-  deep = deep_by c (end_changed with_error p c) (small_shrinks None c (end_marked mark_error p)) k.deep;
-}
+well_marked : (p : ℕ) (c : CoreState) → IsCountable c → IsCountable (end_changed with_error p c)
+well_marked p c k = change_countable None c k (by_small None (by_bridge refl) (end_marked mark_error p))
 
-well_unbridged : (e : ℕ) (c : CoreState) → IsWell c → IsWell (unbridged e c)
-well_unbridged e c k = record {
-  fits = change_fits None c (end_unbridged e) k.fits;
-  there = change_there None c (end_unbridged e) k.there;
-  deep = record { short = k.deep.short; given = k.deep.given };
-}
-
-well_swept : (c : CoreState) → IsWell c → IsWell (sweep c)
-well_swept c k = record {
-  fits = change_fits None c objects_swept k.fits;
-  there = change_there None c objects_swept k.there;
-  deep = deep_by c (sweep c) (swept_shrinks c) k.deep;
-}
+well_unbridged : (e : ℕ) (c : CoreState) → IsCountable c → IsCountable (unbridged e c)
+well_unbridged e c k = change_countable None c k (end_unbridged e)
 
 pub all_named_swept : (c : CoreState) → AllNamed (sweep c)
 all_named_swept c object there = ((swept_iff c object).0 there).1
@@ -74,7 +60,7 @@ none_left : (e : ℕ) (xs : List ℕ) → is_in (filter (λ other. not (other ==
 none_left e xs = let here : (e == e) ≡ true = grind (arith, tests) in in_filtered (λ other. not (other == e)) xs e ∙ ap (λ b. not b && is_in xs e) here
 
 module _ (c : CoreState) (e : ℕ) (s : Stands c) (is : is_in c.bridged e ≡ true) (os : List Object) (m : Marked (peer_of (end_of c.objects e)) c.objects os)
-    (well : IsWell (with_objects os c)) where
+    (well : IsCountable (with_objects os c)) where
   abbrev u : CoreState
   u = unbridged e (with_objects os c)
 
@@ -91,7 +77,7 @@ module _ (c : CoreState) (e : ℕ) (s : Stands c) (is : is_in c.bridged e ≡ tr
       record {
         cut = subst (λ (x : CoreState). AreCutOff (e ∷ []) c x) same cut;
         stands = record {
-          well = well_swept u (well_unbridged e (with_objects os c) well);
+          well = swept_countable u (well_unbridged e (with_objects os c) well);
           named = all_named_swept u;
           keeps = subst (λ (x : CoreState). KeepsApart x) same keeps;
         };

@@ -17,7 +17,7 @@ use Rattle.set_laws.specs.Soundness.{IsSound}
 use Rattle.set_laws.proofs.Soundness.{apart, given_numbers, opened_histories_sound}
 use Rattle.count_laws.specs.Dropping.{AllNamed}
 use Rattle.name_laws.proofs.There.{histories_there}
-use Rattle.fit_laws.proofs.Ready.{IsWell}
+use Rattle.fit_laws.proofs.Ready.{histories_countable}
 use Rattle.fit_laws.proofs.Steps.{histories_fit}
 use Rattle.bridge_laws.specs.Bridged.{NamesItsEntries}
 use Rattle.bridge_laws.proofs.Steps.{histories_bridged}
@@ -33,16 +33,6 @@ nothing_there scene object there = absurd (cc)
 
 all_named : (scene : SceneValue) (entries : List Entry) → AllNamed (state_after (opening scene) entries).core
 all_named scene entries = swept_along AllNamed all_named_swept (opening scene) entries (nothing_there scene)
-
-is_well : (scene : SceneValue) (entries : List Entry) → Legal (opening scene) entries → IsWell (state_after (opening scene) entries).core
-is_well scene entries legal =
-    let s : State = state_after (opening scene) entries in
-    let sound : IsSound s = opened_histories_sound scene entries legal in
-    record {
-      fits = histories_fit scene entries;
-      there = histories_there scene entries;
-      deep = record { short = sound.chains; given = (given_numbers s.core (apart s.core sound.given)).members };
-    }
 
 -- a step of the device that breaks it
 breaks_by : (s : State) (o : Option DeviceStep) → device_step s ≡ o → (r : Stepped) → option_map device_stepped o ≡ Some r → (queue : ℕ) (cause : BreakCause) (place : ℕ)
@@ -70,7 +60,7 @@ histories_break : (scene : SceneValue) (entries : List Entry) → Legal (opening
     → step (state_after (opening scene) entries) event.Device ≡ Some r → r.answer ≡ answer.Device (device.Broke queue cause place) → IsBreak (state_after (opening scene) entries) r.state
 histories_break scene entries legal r queue cause place is says =
     let s : State = state_after (opening scene) entries in
-    let stands : Stands s.core = record { well = is_well scene entries legal; named = all_named scene entries; keeps = histories_apart scene entries } in
+    let stands : Stands s.core = record { well = histories_countable scene entries; named = all_named scene entries; keeps = histories_apart scene entries } in
     subst (λ (t : State). IsBreak s t) (sym (step_breaks s r is queue cause place says)) (broken_so s stands (histories_bridged scene entries))
 
 pub reached_break : (s : State) (r : Stepped) (queue : ℕ) (cause : BreakCause) (place : ℕ) → IsReachable s → step s event.Device ≡ Some r

@@ -1,5 +1,6 @@
 pub mod Looks
 pub mod Touching
+pub mod Unswept
 pub mod Meeting
 pub mod Numbers
 pub mod Marking

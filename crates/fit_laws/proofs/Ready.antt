@@ -19,6 +19,7 @@ use Rattle.kernel_types.specs.Opening.{opening}
 use Rattle.kernel_types.specs.Sets.{new_member, with_member}
 use Rattle.kernel_types.specs.Sweep.{sweep}
 use Rattle.kernel_types.specs.Tables.{entry_at, table_of}
+use Rattle.kernel_types.specs.Threads.{running_activity, with_activity}
 use Rattle.kernel_laws.proofs.Starts.{same_ended, same_idle, same_started}
 use Rattle.kernel_laws.specs.Numbers.{RisesFrom}
 use Rattle.set_laws.specs.Chains.{HasMember}
@@ -38,7 +39,7 @@ use Rattle.count_laws.specs.Thinning.{NamedThere}
 use Rattle.set_laws.proofs.Known.{entry_known}
 use Rattle.name_laws.proofs.There.{There, apart_there, change_there, histories_there, resumed_there, served_there}
 use Rattle.fit_laws.specs.Fitting.{FittingCore}
-use Rattle.fit_laws.specs.Sweeps.{BeforeSweep, BeforeSweeps, IsReady}
+use Rattle.fit_laws.specs.Sweeps.{BeforeSweep, BeforeSweeps, IsCountable, IsReady}
 use Rattle.fit_laws.proofs.Looks.{rises_end}
 use Rattle.fit_laws.proofs.Meeting.{fitting_fits}
 use Rattle.fit_laws.proofs.Ranking.{fitting_ranked}
@@ -66,49 +67,53 @@ there_below low (object ∷ objects) high n rises there =
     ] in
     go (object.id == n) refl there
 
--- All three together.
+-- All of it together.
 
-pub record IsWell (c : CoreState) : Type 0 where
-  pub fits : FittingCore c
-  pub there : NamedThere c
-  pub deep : Deep c
+pub deep_of : (c : CoreState) → IsCountable c → Deep c
+deep_of c k = record { short = k.short; given = k.given }
+
+pub countable_by : (c : CoreState) → FittingCore c → NamedThere c → Deep c → IsCountable c
+countable_by c fits there deep = record { fits = fits; there = there; short = deep.short; given = deep.given }
 
 held_below : (c : CoreState) → FittingCore c → NamedThere c → (app handle : ℕ) (entry : TableEntry) → entry_at (table_of c app) handle ≡ Some entry → entry.object < c.next
 held_below c fits there app handle entry held =
     let known : IfThere (λ (e : TableEntry). There c.objects e.object) (entry_at (table_of c app) handle) = entry_known (There c.objects) (There c.objects) c (apart_there c there) app handle in
     there_below 0 c.objects c.next entry.object fits.rises (subst (λ o. IfThere (λ (e : TableEntry). There c.objects e.object) o) held known)
 
-call_deep : (app thread : ℕ) (asked : Call) (said : Answer) (c : CoreState) → IsWell c → (change : ThreadChange app thread asked said c) → Deep (after_thread app thread asked said c change)
+call_deep : (app thread : ℕ) (asked : Call) (said : Answer) (c : CoreState) → IsCountable c → (change : ThreadChange app thread asked said c) → Deep (after_thread app thread asked said c change)
 call_deep app thread asked said c k (set_made is made room) =
-    let more : Deep (added (body.Set (record { members = [] })) c) = deep_new_set c k.deep in
+    let more : Deep (added (body.Set (record { members = [] })) c) = deep_new_set c (deep_of c k) in
     record { short = more.short; given = more.given }
 call_deep app thread asked said c k (member_added held handle mask cookie id set entry is here may) =
-    joined_deep c k.deep id set (new_member handle entry.object mask cookie) may
+    joined_deep c (deep_of c k) id set (new_member handle entry.object mask cookie) may
     (held_below c k.fits k.there app handle entry here)
-call_deep app thread asked said c k (wait_begun on awaits goes is) = record { short = k.deep.short; given = k.deep.given }
-call_deep app thread asked said c k (app_started place was found still connects) = same_deep c (started place c) (same_started place c) k.deep
-call_deep app thread asked said c k (thread_over ends) = record { short = k.deep.short; given = k.deep.given }
-call_deep app thread asked said c k (app_over ends) = same_deep c (application_ended app c) (same_ended app c) k.deep
+call_deep app thread asked said c k (wait_begun on awaits goes is) = record { short = k.short; given = k.given }
+call_deep app thread asked said c k (app_started place was found still connects) = same_deep c (started place c) (same_started place c) (deep_of c k)
+call_deep app thread asked said c k (thread_over ends) = record { short = k.short; given = k.given }
+call_deep app thread asked said c k (app_over ends) = same_deep c (application_ended app c) (same_ended app c) (deep_of c k)
 
-change_deep : (asked : Option Call) (c : CoreState) → IsWell c → (change : CoreChange asked c) → Deep (after_core asked c change)
-change_deep asked c k (by_small by made change) = deep_by c (after by c change) (small_shrinks by c change) k.deep
+change_deep : (asked : Option Call) (c : CoreState) → IsCountable c → (change : CoreChange asked c) → Deep (after_core asked c change)
+change_deep asked c k (by_small by made change) = deep_by c (after by c change) (small_shrinks by c change) (deep_of c k)
 change_deep asked c k (by_call app thread begun said is change) = call_deep app thread begun said c k change
-change_deep asked c k (wait_over thread start found wait there waited) = record { short = k.deep.short; given = k.deep.given }
-change_deep asked c k (app_served place was there still) = same_deep c (started place c) (same_started place c) k.deep
-change_deep asked c k (end_bridged end given) = record { short = k.deep.short; given = k.deep.given }
-change_deep asked c k (end_unbridged end) = record { short = k.deep.short; given = k.deep.given }
-change_deep asked c k (time_passed deadline) = same_deep c (core_idle deadline c) (same_idle c deadline) k.deep
-change_deep asked c k objects_swept = deep_by c (sweep c) (swept_shrinks c) k.deep
+change_deep asked c k (wait_over thread start found wait there waited) = record { short = k.short; given = k.given }
+change_deep asked c k (app_served place was there still) = same_deep c (started place c) (same_started place c) (deep_of c k)
+change_deep asked c k (end_bridged end given) = record { short = k.short; given = k.given }
+change_deep asked c k (end_unbridged end) = record { short = k.short; given = k.given }
+change_deep asked c k (time_passed deadline) = same_deep c (core_idle deadline c) (same_idle c deadline) (deep_of c k)
+change_deep asked c k objects_swept = deep_by c (sweep c) (swept_shrinks c) (deep_of c k)
 
-change_well : (asked : Option Call) (c : CoreState) → IsWell c → (change : CoreChange asked c) → IsWell (after_core asked c change)
-change_well asked c k change = record { fits = change_fits asked c change k.fits; there = change_there asked c change k.there; deep = change_deep asked c k change }
+pub change_countable : (asked : Option Call) (c : CoreState) → IsCountable c → (change : CoreChange asked c) → IsCountable (after_core asked c change)
+change_countable asked c k change = countable_by (after_core asked c change) (change_fits asked c change k.fits) (change_there asked c change k.there) (change_deep asked c k change)
 
-pub ready : (c : CoreState) → IsWell c → IsReady c
-ready c k = record { fit = fitting_fits c k.fits; ranked = fitting_ranked c k.fits k.deep.short; there = k.there }
+pub ready : (c : CoreState) → IsCountable c → IsReady c
+ready c k = record { fit = fitting_fits c k.fits; ranked = fitting_ranked c k.fits k.short; there = k.there }
+
+pub swept_countable : (c : CoreState) → IsCountable c → IsCountable (sweep c)
+swept_countable c k = change_countable None c k objects_swept
 
 -- At each sweep of a row.
 
-before_sweep : (asked : Option Call) (c : CoreState) → IsWell c → (change : CoreChange asked c) → BeforeSweep IsReady asked c change
+before_sweep : (asked : Option Call) (c : CoreState) → IsCountable c → (change : CoreChange asked c) → BeforeSweep IsReady asked c change
 before_sweep asked c k objects_swept = ready c k
 before_sweep asked c k (by_small by made change) = tt
 before_sweep asked c k (by_call app thread begun said is change) = tt
@@ -118,30 +123,27 @@ before_sweep asked c k (end_bridged end given) = tt
 before_sweep asked c k (end_unbridged end) = tt
 before_sweep asked c k (time_passed deadline) = tt
 
-row_well : (asked : Option Call) (c d : CoreState) → IsWell c → Row (CoreChange asked) (after_core asked) c d → IsWell d
-row_well asked c d k row = row_keeps (CoreChange asked) (after_core asked) IsWell (λ b well change. change_well asked b well change) c d row k
+pub row_countable : (asked : Option Call) (c d : CoreState) → IsCountable c → Row (CoreChange asked) (after_core asked) c d → IsCountable d
+row_countable asked c d k row = row_keeps (CoreChange asked) (after_core asked) IsCountable (λ b well change. change_countable asked b well change) c d row k
 
-pub before_sweeps : (asked : Option Call) (c d : CoreState) → IsWell c → (row : Row (CoreChange asked) (after_core asked) c d) → BeforeSweeps IsReady asked c d row
+pub before_sweeps : (asked : Option Call) (c d : CoreState) → IsCountable c → (row : Row (CoreChange asked) (after_core asked) c d) → BeforeSweeps IsReady asked c d row
 before_sweeps asked c d k (stays _ is) = tt
-before_sweeps asked c d k (goes_on _ b row change is) = (before_sweep asked b (row_well asked c b k row) change, before_sweeps asked c b k row)
+before_sweeps asked c d k (goes_on _ b row change is) = (before_sweep asked b (row_countable asked c b k row) change, before_sweeps asked c b k row)
 
 -- Histories.
 
 pub well : Invariant
 well = record {
-  holds = IsWell;
-  small = λ by c k made change. change_well None c k (by_small by made change);
-  call = λ app thread asked said c k change. change_well (Some asked) c k (by_call app thread asked said refl change);
-  resumed = λ thread c k. record { fits = k.fits; there = resumed_there thread c k.there; deep = record { short = k.deep.short; given = k.deep.given } };
-  served = λ place c k. record {
-    fits = same_fits c (started place c) (same_started place c) k.fits;
-    there = served_there place c k.there;
-    deep = same_deep c (started place c) (same_started place c) k.deep;
-  };
-  bridged = λ end c k given. change_well None c k (end_bridged end given);
-  unbridged = λ end c k. change_well None c k (end_unbridged end);
-  passed = λ deadline c k. change_well None c k (time_passed deadline);
-  swept = λ c k. change_well None c k objects_swept;
+  holds = IsCountable;
+  small = λ by c k made change. change_countable None c k (by_small by made change);
+  call = λ app thread asked said c k change. change_countable (Some asked) c k (by_call app thread asked said refl change);
+  resumed = λ thread c k. countable_by (with_activity running_activity thread c) k.fits (resumed_there thread c k.there) (record { short = k.short; given = k.given });
+  served = λ place c k. countable_by (started place c) (same_fits c (started place c) (same_started place c) k.fits) (served_there place c k.there)
+      (same_deep c (started place c) (same_started place c) (deep_of c k));
+  bridged = λ end c k given. change_countable None c k (end_bridged end given);
+  unbridged = λ end c k. change_countable None c k (end_unbridged end);
+  passed = λ deadline c k. change_countable None c k (time_passed deadline);
+  swept = λ c k. change_countable None c k objects_swept;
 }
 
 no_member : (a b : ℕ) → HasMember [] a b → b < 0
@@ -151,10 +153,13 @@ opening_deep : (scene : SceneValue) → Deep (opening scene).core
 unfolding opening
 opening_deep scene = record { short = openings_short scene; given = no_member }
 
-opening_well : (scene : SceneValue) → IsWell (opening scene).core
-opening_well scene = record { fits = histories_fit scene []; there = histories_there scene []; deep = opening_deep scene }
+pub opening_countable : (scene : SceneValue) → IsCountable (opening scene).core
+opening_countable scene = countable_by (opening scene).core (histories_fit scene []) (histories_there scene []) (opening_deep scene)
+
+pub histories_countable : (scene : SceneValue) (entries : List Entry) → IsCountable (state_after (opening scene) entries).core
+unfolding well
+histories_countable scene entries = holds_along well (opening scene) entries (opening_countable scene)
 
 pub histories_ready : (scene : SceneValue) (entries : List Entry) (asked : Option Call) (d : CoreState) (row : Row (CoreChange asked) (after_core asked) (state_after (opening scene) entries).core d)
     → BeforeSweeps IsReady asked (state_after (opening scene) entries).core d row
-unfolding well
-histories_ready scene entries asked d row = before_sweeps asked (state_after (opening scene) entries).core d (holds_along well (opening scene) entries (opening_well scene)) row
+histories_ready scene entries asked d row = before_sweeps asked (state_after (opening scene) entries).core d (histories_countable scene entries) row

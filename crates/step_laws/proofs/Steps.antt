@@ -9,6 +9,7 @@ use Rattle.kernel_values.specs.declared.entry.Event.TheVariants as event
 use Rattle.kernel_values.specs.declared.entry.Seqs.{Seqs}
 use Rattle.kernel_values.specs.declared.errno.Errno.{Errno}
 use Rattle.kernel_values.specs.declared.errno.Errno.TheVariants as errno
+use Rattle.kernel_values.specs.declared.flags.PortFlags.{PortFlags}
 use Rattle.kernel_values.specs.declared.reply.Answer.{Answer}
 use Rattle.kernel_values.specs.declared.state.Activity.{Activity}
 use Rattle.kernel_values.specs.declared.state.Activity.TheVariants as activity
@@ -17,6 +18,7 @@ use Rattle.kernel_values.specs.declared.state.ChannelEnd.{ChannelEnd}
 use Rattle.kernel_values.specs.declared.state.Connector.TheVariants as connector
 use Rattle.kernel_values.specs.declared.state.CoreState.{CoreState}
 use Rattle.kernel_values.specs.declared.state.Message.{Message}
+use Rattle.kernel_values.specs.declared.state.Port.{Port}
 use Rattle.kernel_values.specs.declared.state.State.{State}
 use Rattle.kernel_values.specs.declared.state.Thread.{Thread}
 use Rattle.kernel_values.specs.declared.state.Wait.{Wait}
@@ -51,7 +53,7 @@ use Rattle.step_laws.proofs.Acting.{DoesIf, act_goes}
 use Rattle.step_laws.proofs.Bridged.{DeviceKeepsIf, OfDevice, device_keeps}
 use Rattle.step_laws.proofs.Calls.{GoesIf, deliver_goes, end_of_wait_goes, get_message_goes, get_message_seqs, not_false, only_opened, put_from_told}
 use Rattle.step_laws.proofs.Leaving.{row_leaves}
-use Rattle.step_laws.proofs.Outcomes.{Comes}
+use Rattle.step_laws.proofs.Outcomes.{Acts, Comes}
 use Rattle.step_laws.proofs.Rows.{no_change, one_more}
 use Rattle.step_laws.proofs.There.{bridge_pair_made, client_made_so}
 
@@ -99,23 +101,30 @@ pub acting : (c : CoreState) (thread : ℕ) (found : Thread) → slice_get c.thr
 acting c thread found there goes b same = by_thread thread found (ap (λ (l : List Thread). slice_get l thread) same ∙ there) refl goes
 
 module _ (c : CoreState) (thread : ℕ) (found : Thread) (there : slice_get c.threads thread ≡ Some found) where
+  -- the state that a call leaves before the sweep
+  pub acted_walks : (asked : Call) → is_over found.activity ≡ false → (outcome : Outcome) → Acts found.app thread asked c outcome → CoreWalk (Some asked) c (moves_of outcome.seqs) outcome.core
+  acted_walks asked goes outcome does =
+      let small : CoreWalk (Some asked) c (moves_of outcome.seqs) does.middle = small_walks (Some asked) (Some found.app) c c (acting c thread found there goes) does.middle (from_here (Some asked) c) does.walk in
+      threads_walk found.app thread asked outcome.answer c does.middle outcome.core small does.changes
+
+  -- the state that the end of a wait leaves before the sweep
+  pub ended_walks : (start : ℕ) (wait : Wait) → found.activity ≡ activity.Waiting start wait → is_over found.activity ≡ false → (outcome : Outcome) → Comes (Some found.app) false true c outcome
+      → CoreWalk None c (moves_of outcome.seqs) (with_activity running_activity thread outcome.core)
+  ended_walks start wait waited goes outcome comes =
+      let small : CoreWalk None c (moves_of outcome.seqs) outcome.core = small_walks None (Some found.app) c c (acting c thread found there goes) outcome.core (from_here None c) comes.walk in
+      let still : outcome.core.threads ≡ c.threads = (row_leaves (Some found.app) c outcome.core comes.walk.row).threads in
+      further c outcome.core small (wait_over thread start found wait (ap (λ (l : List Thread). slice_get l thread) still ∙ there) waited) refl
+
   swept_walks : (asked : Call) (goes : is_over found.activity ≡ false) → (o : Option Outcome) → DoesIf found.app thread c asked o → WalkedIf (Some asked) c (option_map swept o)
   swept_walks asked goes None does = tt
-  swept_walks asked goes (Some outcome) does =
-      let small : CoreWalk (Some asked) c (moves_of outcome.seqs) does.middle = small_walks (Some asked) (Some found.app) c c (acting c thread found there goes) does.middle (from_here (Some asked) c) does.walk in
-      let all : CoreWalk (Some asked) c (moves_of outcome.seqs) outcome.core = threads_walk found.app thread asked outcome.answer c does.middle outcome.core small does.changes in
-      record { walk = further c outcome.core all objects_swept refl; ends = swept_last outcome.core refl }
+  swept_walks asked goes (Some outcome) does = record { walk = further c outcome.core (acted_walks asked goes outcome does) objects_swept refl; ends = swept_last outcome.core refl }
 
   resumed_walks : (start : ℕ) (wait : Wait) → found.activity ≡ activity.Waiting start wait → is_over found.activity ≡ false → (o : Option Outcome) → GoesIf (Some found.app) c o
       → WalkedIf None c (option_map (resumed thread) o)
   resumed_walks start wait waited goes None comes = tt
   resumed_walks start wait waited goes (Some outcome) comes =
-      let small : CoreWalk None c (moves_of outcome.seqs) outcome.core = small_walks None (Some found.app) c c (acting c thread found there goes) outcome.core (from_here None c) comes.walk in
-      let still : outcome.core.threads ≡ c.threads = (row_leaves (Some found.app) c outcome.core comes.walk.row).threads in
       let runs : CoreState = with_activity running_activity thread outcome.core in
-      let all : CoreWalk None c (moves_of outcome.seqs) runs =
-      further c outcome.core small (wait_over thread start found wait (ap (λ (l : List Thread). slice_get l thread) still ∙ there) waited) refl in
-      record { walk = further c runs all objects_swept refl; ends = swept_last runs refl }
+      record { walk = further c runs (ended_walks start wait waited goes outcome comes) objects_swept refl; ends = swept_last runs refl }
 
   walked_if : (asked : Option Call) (b : Bool) (o : Option Outcome) → WalkedIf asked c o → WalkedIf asked c (if b then o else None)
   walked_if asked true o walked = walked
@@ -186,18 +195,29 @@ module _ (c : CoreState) where
       let go : (b : Bool) → P b = λ b. elim b as (λ v. P v) [ true ↦ (λ runs. k) | false ↦ (λ still. further c d k (app_served place was is still) refl) ] in
       go was.running refl
 
-  way_walks : (way : Way) (path : List ℕ) → way_of c path ≡ way → MadeWalks c (ns_connect_by way c path)
-  way_walks (to_port id port) path is =
-      made_unless (not (admits port.flags connector.NormalWorld)) errno.AccessDenied _ (λ lets.
+  -- what a connect of the normal world leaves before the sweep, by its way
+  pub to_port_walks : (path : List ℕ) (id : ℕ) (port : Port) → way_of c path ≡ to_port id port → admits port.flags connector.NormalWorld ≡ true
+      → CoreWalk None c [] (bridging c.next (pending_pair connector.NormalWorld id port c))
+  to_port_walks path id port is lets =
       let made : CoreState = pending_pair connector.NormalWorld id port c in
-      let pair : CoreWalk None c [] made = by_bridge_one c c (from_here None c) (pair_made connector.NormalWorld path id port is (not_false (admits port.flags connector.NormalWorld) lets)) refl in
-      swept_so c (bridging c.next made) (further c made pair (end_bridged c.next (bridge_pair_made id port c)) refl))
-  way_walks (to_start place start) path is =
-      made_unless (not (admits start connector.NormalWorld)) errno.AccessDenied _ (λ lets.
+      let pair : CoreWalk None c [] made = by_bridge_one c c (from_here None c) (pair_made connector.NormalWorld path id port is lets) refl in
+      further c made pair (end_bridged c.next (bridge_pair_made id port c)) refl
+
+  pub to_start_walks : (path : List ℕ) (place : ℕ) (start : PortFlags) → way_of c path ≡ to_start place start
+      → CoreWalk None c [] (started_unless_running place (slice_get c.apps place) (bridging c.next (waiting_client connector.NormalWorld path c)))
+  to_start_walks path place start is =
       let made : CoreState = waiting_client connector.NormalWorld path c in
       let client : CoreWalk None c [] made = by_bridge_one c c (from_here None c) (client_made connector.NormalWorld path (ap is_to_port is)) refl in
       let named : CoreWalk None c [] (bridging c.next made) = further c made client (end_bridged c.next (client_made_so is_of_bridge connector.NormalWorld path c refl)) refl in
-      swept_so c (started_unless_running place (slice_get c.apps place) (bridging c.next made)) (start_walks (bridging c.next made) named place (slice_get c.apps place) refl))
+      start_walks (bridging c.next made) named place (slice_get c.apps place) refl
+
+  way_walks : (way : Way) (path : List ℕ) → way_of c path ≡ way → MadeWalks c (ns_connect_by way c path)
+  way_walks (to_port id port) path is =
+      made_unless (not (admits port.flags connector.NormalWorld)) errno.AccessDenied _ (λ lets.
+      swept_so c (bridging c.next (pending_pair connector.NormalWorld id port c)) (to_port_walks path id port is (not_false (admits port.flags connector.NormalWorld) lets)))
+  way_walks (to_start place start) path is =
+      made_unless (not (admits start connector.NormalWorld)) errno.AccessDenied _ (λ lets.
+      swept_so c (started_unless_running place (slice_get c.apps place) (bridging c.next (waiting_client connector.NormalWorld path c))) (to_start_walks path place start is))
   way_walks to_nothing path is = tt
 
   pub ns_connect_walks : (path : List ℕ) → MadeWalks c (ns_connect c path)
@@ -208,28 +228,42 @@ module _ (c : CoreState) where
   made_walks (Err e) made walks is = absurd (cc)
   made_walks (Ok other) made walks is = let same : other ≡ made = cc in subst (λ (d : CoreState). IsWalk None c no_seqs d) same walks
 
+  -- what a push leaves before the sweep
+  pub delivered_walks : (end : ℕ) (source : ChannelEnd) → end_of c.objects end ≡ Some source → (bytes : List ℕ) → length bytes ≤ source.size
+      → CoreWalk None c (moves_of (deliver c end source.peer (peer_end c.objects source.peer) bytes []).seqs) (deliver c end source.peer (peer_end c.objects source.peer) bytes []).core
+  delivered_walks end source is bytes short =
+      let outcome : Outcome = deliver c end source.peer (peer_end c.objects source.peer) bytes [] in
+      let goes : Comes None false false c outcome = deliver_goes None c c (none_yet None c) end source is bytes [] short (no_parts refl) source.peer refl (peer_end c.objects source.peer) refl in
+      bridge_walks c c outcome.core (from_here None c) goes.walk
+
   push_walks : (end : ℕ) (bytes : List ℕ) (o : Option ChannelEnd) → end_of c.objects end ≡ o → length bytes ≤ (view_of c o).size
       → IsWalk None c (push_from c end bytes o).seqs (push_from c end bytes o).core
   push_walks end bytes None is short = stays_so None c
-  push_walks end bytes (Some source) is short =
-      let outcome : Outcome = deliver c end source.peer (peer_end c.objects source.peer) bytes [] in
-      let goes : Comes None false false c outcome = deliver_goes None c c (none_yet None c) end source is bytes [] short (no_parts refl) source.peer refl (peer_end c.objects source.peer) refl in
-      swept_so c outcome.core (bridge_walks c c outcome.core (from_here None c) goes.walk)
+  push_walks end bytes (Some source) is short = swept_so c (deliver c end source.peer (peer_end c.objects source.peer) bytes []).core (delivered_walks end source is bytes short)
 
   pub ns_push_walks : (end : ℕ) (bytes : List ℕ) → length bytes ≤ (ns_view c end).size → IsWalk None c (ns_push c end bytes).seqs (ns_push c end bytes).core
   unfolding ns_push ns_view
   ns_push_walks end bytes short = push_walks end bytes (end_of c.objects end) refl short
 
-  take_walks : (id : ℕ) (o : Option ChannelEnd) → end_of c.objects id ≡ o → IsWalk None c (take_from c id o).seqs (take_from c id o).core
-  take_walks id None is = stays_so None c
-  take_walks id (Some end) is =
+  -- what opening and retiring the oldest filled message leaves before the sweep
+  pub put_walks : (id : ℕ) (end : ChannelEnd) → end_of c.objects id ≡ Some end
+      → let got : Outcome = get_message c id end (find is_filled end.messages) in
+      let last : Outcome = put_from got.core id (free_id end.messages) (end_of got.core.objects id) in
+      CoreWalk None c (moves_of (record { sent = None; opened = got.seqs.opened; retired = last.seqs.retired })) last.core
+  put_walks id end is =
       let first : Option Message = find is_filled end.messages in
       let got : Outcome = get_message c id end first in
       let opens : Comes None false false c got = get_message_goes None c c (none_yet None c) id end is first refl in
       let so_far : SmallWalk None c (moves_of (only_opened got.seqs.opened)) got.core = subst (λ (q : Seqs). SmallWalk None c (moves_of q) got.core) (get_message_seqs c id end first) opens.walk in
       let last : Outcome = put_from got.core id (free_id end.messages) (end_of got.core.objects id) in
-      swept_so c last.core
-      (bridge_walks c c last.core (from_here None c) (put_from_told None c got.seqs.opened got.core so_far id (free_id end.messages) (end_of got.core.objects id) refl))
+      bridge_walks c c last.core (from_here None c) (put_from_told None c got.seqs.opened got.core so_far id (free_id end.messages) (end_of got.core.objects id) refl)
+
+  take_walks : (id : ℕ) (o : Option ChannelEnd) → end_of c.objects id ≡ o → IsWalk None c (take_from c id o).seqs (take_from c id o).core
+  take_walks id None is = stays_so None c
+  take_walks id (Some end) is =
+      let got : Outcome = get_message c id end (find is_filled end.messages) in
+      let last : Outcome = put_from got.core id (free_id end.messages) (end_of got.core.objects id) in
+      swept_so c last.core (put_walks id end is)
 
   pub ns_take_walks : (id : ℕ) → IsWalk None c (ns_take c id).seqs (ns_take c id).core
   unfolding ns_take
@@ -244,11 +278,13 @@ module _ (s : CoreState) where
   marked_walks c k true end = peer_marked_walks c k (peer_of (end_of c.objects end))
   marked_walks c k false end = k
 
+  -- what a drop leaves before the sweep
+  pub dropped_walks : (c : CoreState) → CoreWalk None s [] c → (broken : Bool) (end : ℕ) → CoreWalk None s [] (unbridged end (marked_if broken end c))
+  dropped_walks c k broken end = further s (marked_if broken end c) (marked_walks c k broken end) (end_unbridged end) refl
+
   pub ns_drop_walks : (c : CoreState) → CoreWalk None s [] c → (broken : Bool) (end : ℕ) → IsWalk None s no_seqs (ns_drop broken end c)
   unfolding ns_drop
-  ns_drop_walks c k broken end =
-      let marked : CoreState = marked_if broken end c in
-      swept_so s (unbridged end marked) (further s marked (marked_walks c k broken end) (end_unbridged end) refl)
+  ns_drop_walks c k broken end = swept_so s (unbridged end (marked_if broken end c)) (dropped_walks c k broken end)
 
   all_dropped_walk : (c : CoreState) → IsWalk None s no_seqs c → (entries : List BridgeEntry) → IsWalk None s no_seqs (fold entry_dropped c entries)
   all_dropped_walk c k [] = k

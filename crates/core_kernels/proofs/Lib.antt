@@ -1,0 +1,4 @@
+pub mod Clientless
+pub mod Orders
+pub mod Statuses
+pub mod Unswept

@@ -1,0 +1,4 @@
+pub mod CoreSteps
+pub mod Orderly
+pub mod Steps
+pub mod Value

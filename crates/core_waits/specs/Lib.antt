@@ -1,0 +1,3 @@
+pub mod AtOnce
+pub mod Reported
+pub mod Unswept
