@@ -189,13 +189,6 @@ impl<T> KeptSlots<T> {
         self.slab.len()
     }
 
-    /// A bound on the slots that were ever used.
-    pub fn bound(&self) -> usize
-        ensures { length self.now.slots ≤ result }
-    {
-        self.slab.capacity()
-    }
-
     fn room(&self) -> usize
         ensures { slab_len self.now + result ≡ self.now.capacity }
     {
