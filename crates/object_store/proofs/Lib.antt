@@ -3,3 +3,4 @@ pub mod Slots
 pub mod Changes
 pub mod Stock
 pub mod Dead
+pub mod Rising

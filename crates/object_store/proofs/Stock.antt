@@ -185,6 +185,16 @@ module _ {T : Type 0} where
   pub not_last_of : (h : Held T) → h.names ≢ 1 → option_and_then last_named (Some h) ≡ None
   not_last_of h more = let last : (h.names == 1) ≡ false = grind (arith, nat_tests) in rw last refl
 
+  -- whether it goes, from what comes back
+  pub goes : (h : Held T) (value : T) → option_and_then last_named (Some h) ≡ Some value → h.names ≡ 1
+  goes h value back = elim (cases_eq h.names 1) [
+    | inl one ↦ one
+    | inr more ↦ let none : Some value ≡ None = sym back ∙ not_last_of h more in absurd (cc none)
+  ]
+
+  pub stays : (h : Held T) → option_and_then last_named (Some h) ≡ None → h.names ≢ 1
+  stays h none = λ one. let both : Some h.value ≡ None = sym (last_of h one) ∙ none in cc both
+
   -- the store found the slot of a number
   module _ (s : Slab (Held T)) (next total slot n : ℕ) (stock : IsStock s next total) (at : is_at s slot n ≡ true) where
     pub some_found : is_some (held_at (listed s next) n) ≡ true

@@ -1,5 +1,6 @@
 pub mod Stock
 pub mod Slots
+pub mod Rising
 pub mod Lending
 pub mod Keys
 pub mod SlotLending

@@ -1,6 +1,6 @@
 //! The slots of a store, and which of them have a value with just one name.
 
-ghost use Rattle.std.specs.Prelude.{◌≡◌, ◌≢◌, ◌<◌, ◌≤◌, ◌+◌, ◌-◌, ◌^◌, ◌==◌, ℕ, true, false, [], length, IsOk, IsSome, IfSome, IfNone, OnOk, Some, None, option_copied, vec_capacity};
+ghost use Rattle.std.specs.Prelude.{◌≡◌, ◌≢◌, ◌<◌, ◌≤◌, ◌+◌, ◌-◌, ◌^◌, ◌==◌, ℕ, true, false, [], IsOk, IsSome, IfSome, IfNone, OnOk, Some, None, option_copied, vec_capacity};
 ghost use Rattle.std.specs.Option.{option_and_then};
 ghost use Rattle.std.specs.Borrow.{Lends, sem};
 ghost use Rattle.slab.specs.Slab.{get, slab_len, HasRoomFor, Updates};
@@ -187,13 +187,6 @@ impl<T> KeptSlots<T> {
         ensures { result ≡ slab_len self.now }
     {
         self.slab.len()
-    }
-
-    /// A bound on the slots that were ever used.
-    pub fn bound(&self) -> usize
-        ensures { length self.now.slots ≤ result }
-    {
-        self.slab.capacity()
     }
 
     fn room(&self) -> usize

@@ -2,7 +2,7 @@
 
 /// A value's serial number, and the slot in which it stood when the key was made. The serial number
 /// alone says which value is meant. The slot tells where to look first: where another value stands
-/// there, the store looks in all of its slots.
+/// there, the store looks the serial number up.
 #[derive(Clone, Copy, PartialEq, Eq, Debug)]
 pub struct ObjKey {
     /// Where to look first.

@@ -5,6 +5,7 @@
 
 mod kept;
 pub mod key;
+mod order;
 pub mod parts;
 pub mod store;
 

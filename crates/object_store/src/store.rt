@@ -4,10 +4,12 @@ ghost use Rattle.std.specs.Prelude.{◌≡◌, ◌<◌, ◌≤◌, ◌+◌, ◌-
 ghost use Rattle.std.specs.Option.{option_copied_mut, option_to_list};
 ghost use Rattle.std.specs.Borrow.{sem};
 ghost use Rattle.object_store.specs.Slots.{is_at};
+ghost use Rattle.object_store.specs.Rising.{IsOrder};
 ghost use Rattle.object_store.specs.Stock.{new_held, held_at, value_at, names_at, total_names, changed, one_more, unnamed, last_at, NoneDead, IsSoundFrom};
 
 use crate::kept::{KeptSlots, Slot};
 use crate::key::ObjKey;
+use crate::order::Order;
 use kernel_values::NoMemory;
 use std::alloc::Global;
 use std::marker::Model;
@@ -23,18 +25,24 @@ pub struct PutRefused<T> {
 /// serial number, and how many values fit with no allocation.
 ///
 /// A key whose value is gone finds nothing, and no call changes anything for it.
+///
+/// No call goes through all values: where the key's own slot has another value, or none, the serial
+/// number is looked for by binary search. Only `unname` moves the serial numbers behind one that goes.
 #[derive(Drop)]
 pub struct Store<T> {
     slab: KeptSlots<T>,
+    // The slots by serial number.
+    order: Order,
     next: u64,
     total: u64,
 }
 
 impl<T> Model for Store<T> {
-    ghost use Rattle.std.specs.Prelude.{◌-◌};
+    ghost use Rattle.std.specs.Prelude.{◌-◌, min};
     ghost use Rattle.slab.specs.Slab.{slab_len};
     ghost use Rattle.object_store.specs.Stock.{Stock, stock_code};
-    ghost use Rattle.object_store.specs.Slots.{listed, IsStock};
+    ghost use Rattle.object_store.specs.Slots.{listed};
+    ghost use Rattle.object_store.specs.Rising.{IsStore};
 
     ghost Value = { Stock T };
 
@@ -43,10 +51,10 @@ impl<T> Model for Store<T> {
     ghost view = { λ s. record {
       items = listed s.slab s.next;
       next = s.next;
-      room = s.slab.capacity - slab_len s.slab;
+      room = min s.slab.capacity s.order.capacity - slab_len s.slab;
     } };
 
-    ghost invariant = { λ s. IsStock s.slab s.next s.total };
+    ghost invariant = { λ s. IsStore s.slab s.order s.next s.total };
 }
 
 // Whether the slot holds the value with the serial number.
@@ -60,20 +68,16 @@ fn stands_at<T>(slab: &KeptSlots<T>, slot: usize, serial: u64) -> bool
 }
 
 // The slot of the value with the key's serial number, if it is there: the key's own slot, or else
-// any other.
-fn slot_of<T>(slab: &KeptSlots<T>, key: ObjKey) -> Option<usize>
+// the one that the order has.
+fn slot_of<T>(slab: &KeptSlots<T>, order: &Order, key: ObjKey) -> Option<usize>
+    requires { IsOrder slab.now order.now }
     ensures found { IfSome result (λ slot. is_at slab.now slot key.serial ≡ true) }
     ensures absent { IfNone result ((slot : ℕ) → is_at slab.now slot key.serial ≡ false) }
 {
     if stands_at(slab, key.slot, key.serial) {
         return Some(key.slot);
     }
-    for slot in 0..slab.bound() {
-        if stands_at(slab, slot, key.serial) {
-            return Some(slot);
-        }
-    }
-    None
+    order.find(key.serial)
 }
 
 impl<T> Store<T> {
@@ -87,6 +91,7 @@ impl<T> Store<T> {
     {
         Store {
             slab: KeptSlots::new(alloc),
+            order: Order::new(alloc),
             next: 0,
             total: 0,
         }
@@ -100,7 +105,8 @@ impl<T> Store<T> {
         ensures grows { self.old.room ≤ self.new.room }
         ensures same { self.new ≡ record self.old { room = self.new.room } }
     {
-        self.slab.reserve(n)
+        self.slab.reserve(n)?;
+        self.order.reserve(n)
     }
 
     /// Tells whether `n` more names can be counted: so many calls of `name` and `put` are then lawful.
@@ -145,6 +151,7 @@ impl<T> Store<T> {
     {
         let serial = self.next;
         let slot = self.slab.insert(serial, value);
+        self.order.push(serial, slot);
         self.next += 1;
         self.total += 1;
         ObjKey { slot, serial }
@@ -155,7 +162,7 @@ impl<T> Store<T> {
         requires { total_names self.old.items < 2 ^ 64 - 1 }
         ensures { self.new ≡ record self.old { items = changed self.old.items key.serial one_more } }
     {
-        let Some(slot) = slot_of(&self.slab, key) else {
+        let Some(slot) = slot_of(&self.slab, &self.order, key) else {
             return;
         };
         self.slab.add_name(slot);
@@ -169,11 +176,13 @@ impl<T> Store<T> {
         ensures next { self.new.next ≡ self.old.next }
         ensures room { self.new.room ≡ self.old.room + length (option_to_list result) }
     {
-        let Some(slot) = slot_of(&self.slab, key) else {
+        let Some(slot) = slot_of(&self.slab, &self.order, key) else {
             return None;
         };
         self.total -= 1;
-        self.slab.drop_name(slot)
+        let value = self.slab.drop_name(slot)?;
+        self.order.remove(key.serial);
+        Some(value)
     }
 
     /// A value with just one name, where there is one. It stays. Where the store's own name of each value
@@ -194,7 +203,7 @@ impl<T> Store<T> {
     fn kept(&self, key: ObjKey) -> Option<&Slot<T>>
         ensures { option_copied result ≡ held_at self.now.items key.serial }
     {
-        match slot_of(&self.slab, key) {
+        match slot_of(&self.slab, &self.order, key) {
             Some(slot) => self.slab.get(slot),
             None => None,
         }
@@ -245,7 +254,7 @@ impl<T> Store<T> {
         ensures* writes_back { sem 𝓛 (lends_value T.row self.entry key.serial result) }
         ensures value { value_at self.old.items key.serial ≡ Some result.now }
     {
-        let slot = slot_of(&self.slab, key).unwrap();
+        let slot = slot_of(&self.slab, &self.order, key).unwrap();
         self.slab.value_mut(slot)
     }
 
@@ -254,7 +263,7 @@ impl<T> Store<T> {
         ensures there { is_some result ≡ is_some (held_at self.now.items serial) }
         ensures key { IfSome result (λ key. key.serial ≡ serial) }
     {
-        match slot_of(&self.slab, ObjKey { slot: 0, serial }) {
+        match slot_of(&self.slab, &self.order, ObjKey { slot: 0, serial }) {
             Some(slot) => Some(ObjKey { slot, serial }),
             None => None,
         }
