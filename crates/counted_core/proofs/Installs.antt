@@ -1,8 +1,8 @@
 -- How an entry that comes changes what roots name.
-use Rattle.std.proofs.Common.{◌≡◌, ℕ, zero, suc, ◌+◌, ◌<◌, ◌≤◌, Bool, true, false, cond, ◌&&◌, ◌||◌, ◌==◌, List, [], ◌∷◌, ◌++◌, take, drop, length, map, not, Option, Some, None, refl, sym, ◌∙◌, ap, subst, arith, tests}
+use Rattle.std.proofs.Common.{◌≡◌, ℕ, zero, suc, ◌+◌, true, cond, ◌==◌, List, [], ◌∷◌, ◌++◌, take, drop, map, Some, subst, arith, tests}
 use Rattle.std.proofs.lemmas.List.Sums.{sum_by-cons}
 use Rattle.std.specs.Prelude.{slice_get, slice_set}
-use Rattle.std.specs.List.{count_by, filter, flat_map, fold, insert}
+use Rattle.std.specs.List.{flat_map}
 use Rattle.kernel_values.specs.declared.state.Application.{Application}
 use Rattle.kernel_values.specs.declared.state.Body.{Body}
 use Rattle.kernel_values.specs.declared.state.CoreState.{CoreState}
@@ -10,10 +10,9 @@ use Rattle.kernel_values.specs.declared.state.TableEntry.{TableEntry}
 use Rattle.kernel_values.specs.declared.state.Thread.{Thread}
 use Rattle.kernel_types.specs.Names.{Name, names_of, root, table_names}
 use Rattle.kernel_types.specs.Objects.{is_there}
-use Rattle.kernel_types.specs.Reach.{is_in}
 use Rattle.kernel_types.specs.Tables.{installed}
-use Rattle.object_store.specs.Stock.{Held, IsSoundFrom, changed, names_at, one_more}
-use Rattle.counted_core.specs.Held.{IsOwed, objects_of, tally, times}
+use Rattle.object_store.specs.Stock.{Held, IsSoundFrom, names_at}
+use Rattle.counted_core.specs.Held.{objects_of, tally, times}
 use Rattle.counted_core.specs.Sending.{named_more}
 use Rattle.counted_core.specs.Sweeping.{IsCounted, core_of, rooted}
 use Rattle.counted_core.proofs.Naming.{AllNamed, IsLacking, names_all}

@@ -6,3 +6,4 @@ pub mod Roots
 pub mod Naming
 pub mod Quiet
 pub mod Installs
+pub mod Totals

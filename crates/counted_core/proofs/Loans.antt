@@ -1,12 +1,11 @@
 -- What a loan of a value leaves, and what is absent past the last number.
-use Rattle.std.proofs.Common.{◌≡◌, ℕ, ◌+◌, ◌<◌, ◌≤◌, Bool, true, false, cond, ◌&&◌, ◌||◌, ◌==◌, ◌⊎◌, inl, inr, List, [], ◌∷◌, map, not, Option, Some, None, refl, sym, ◌∙◌, ap, subst, arith, tests}
+use Rattle.std.proofs.Common.{◌≡◌, ℕ, ◌+◌, ◌<◌, ◌≤◌, Bool, true, false, cond, ◌||◌, ◌==◌, ◌⊎◌, inl, inr, List, [], ◌∷◌, Option, Some, None, refl, sym, ◌∙◌, ap, arith, tests}
 use Rattle.std.specs.Prelude.{OnErr, OnOk, Result, Ok, Err}
-use Rattle.std.specs.Option.{option_map, option_map_or}
+use Rattle.std.specs.Option.{option_map}
 use Rattle.kernel_values.specs.declared.state.Body.{Body}
 use Rattle.kernel_types.specs.Objects.{is_there}
-use Rattle.object_store.specs.Stock.{Held, IsSoundFrom, changed, held_at, names_at, value_at, with_value}
+use Rattle.object_store.specs.Stock.{Held, IsSoundFrom, changed, held_at, value_at, with_value}
 use Rattle.counted_core.specs.Held.{changed_if, lists, lists_at, objects_of, on_value}
-use Rattle.counted_core.proofs.Owing.{absent_names}
 use Rattle.counted_core.proofs.Drops.{changed_value, unchanged}
 
 absent_is : (items : List (Held Body)) (o : ℕ) → value_at items o ≡ None → is_there (objects_of items) o ≡ false

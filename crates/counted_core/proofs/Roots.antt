@@ -1,8 +1,8 @@
 -- How changes of tables change what roots name.
-use Rattle.std.proofs.Common.{◌≡◌, ℕ, zero, suc, ◌+◌, ◌<◌, ◌≤◌, Bool, true, false, cond, ◌&&◌, ◌||◌, ◌==◌, List, [], ◌∷◌, ◌++◌, length, map, not, Option, Some, None, refl, sym, ◌∙◌, ap, subst, arith, tests}
+use Rattle.std.proofs.Common.{◌≡◌, ℕ, zero, suc, ◌+◌, ◌<◌, ◌≤◌, Bool, true, false, cond, ◌==◌, List, [], ◌∷◌, ◌++◌, map, not, Some, None, refl, sym, ◌∙◌, ap, subst, arith, tests}
 use Rattle.std.specs.Prelude.{slice_get, slice_set}
-use Rattle.std.specs.List.{count_by, filter, flat_map, fold}
-use Rattle.std.proofs.lemmas.List.Sums.{sum_by-append, sum_by-cons}
+use Rattle.std.specs.List.{filter, flat_map, fold}
+use Rattle.std.proofs.lemmas.List.Sums.{sum_by-cons}
 use Rattle.kernel_values.specs.declared.state.Application.{Application}
 use Rattle.kernel_values.specs.declared.state.Body.{Body}
 use Rattle.kernel_values.specs.declared.state.CoreState.{CoreState}
@@ -10,12 +10,12 @@ use Rattle.kernel_values.specs.declared.state.TableEntry.{TableEntry}
 use Rattle.kernel_values.specs.declared.state.Thread.{Thread}
 use Rattle.kernel_types.specs.Names.{Name, names_of, root, table_names, wait_names}
 use Rattle.kernel_types.specs.Objects.{is_there, map_at}
-use Rattle.kernel_types.specs.Tables.{entry_at, remove_entry, without}
+use Rattle.kernel_types.specs.Tables.{entry_at, without}
 use Rattle.kernel_laws.proofs.Mapped.{map_at_same}
 use Rattle.handle_table.specs.Tables.{IsTableFrom}
 use Rattle.object_store.specs.Stock.{Held, IsSoundFrom, names_at, unnamed}
 use Rattle.counted_core.specs.Held.{IsOwed, objects_of, tally, times}
-use Rattle.counted_core.specs.Sweeping.{IsCounted, core_of, removed, rooted, roots}
+use Rattle.counted_core.specs.Sweeping.{IsCounted, core_of, removed, rooted}
 use Rattle.counted_core.proofs.Owing.{Settled, settles}
 use Rattle.counted_core.proofs.Sweeps.{both_names, first_name}
 

@@ -2,3 +2,4 @@ pub mod EndChanges
 pub mod Held
 pub mod Sending
 pub mod Sweeping
+pub mod Waiting

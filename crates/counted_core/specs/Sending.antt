@@ -1,18 +1,11 @@
 -- Names that are added.
-use Rattle.std.specs.Prelude.{◌≡◌, ◌+◌, ◌==◌, ℕ, Bool, true, List, Option, Some, None, map, if◌then◌else◌, nat_lt, length}
-use Rattle.std.specs.List.{fold}
+use Rattle.std.specs.Prelude.{◌≡◌, ℕ, true, List, Option, Some, None}
 use Rattle.kernel_values.specs.declared.state.Body.{Body}
 use Rattle.kernel_values.specs.declared.state.CoreState.{CoreState}
 use Rattle.kernel_values.specs.declared.state.ChannelEnd.{ChannelEnd}
 use Rattle.kernel_values.specs.declared.state.MemoryRef.{MemoryRef}
-use Rattle.kernel_values.specs.declared.state.TableEntry.{TableEntry}
-use Rattle.kernel_values.specs.declared.errno.Errno.TheVariants as errno
-use Rattle.kernel_types.specs.Events.{is_disconnected}
-use Rattle.kernel_types.specs.Messages.{entry_object, is_unconnected, part_limit, send_parts}
 use Rattle.kernel_types.specs.Objects.{is_there, end_in, memory_in}
-use Rattle.kernel_types.specs.Outcome.{Outcome, refuses}
 use Rattle.kernel_types.specs.Reach.{is_in}
-use Rattle.kernel_types.specs.Tables.{entry_at}
 use Rattle.object_store.specs.Stock.{Held, changed, one_more}
 
 abbrev pub named_more : List (Held Body) → ℕ → List (Held Body)

@@ -17,6 +17,7 @@ ghost use Rattle.counted_core.specs.EndChanges.{end_after};
 use crate::apps::AppState;
 use crate::ends::{EndChange, change_in};
 use crate::pushes::{name_all, push_message};
+use crate::room::reserve_names;
 use crate::sweep::{self, key_of};
 use handle_table::Slot;
 use kernel_values::{Body, Bytes, ChannelEnd, Items, NoMemory, Thread};
@@ -24,25 +25,27 @@ use object_store::Store;
 use std::alloc::Global;
 use std::marker::Model;
 
-/// A state of the model. Each object's count is how often it is named, and one more for the store.
+/// A state of the model. Each object's count is how often it is named, and one more for the store. Whatever is named, the
+/// name of a wait of each thread can be counted besides, so that a wait begins without being refused.
 #[derive(Drop)]
 pub struct CountedCore {
-    apps: Items<AppState>,
-    threads: Items<Thread>,
-    store: Store<Body>,
-    clock: u64,
-    bridged: Items<u64>,
+    pub(crate) apps: Items<AppState>,
+    pub(crate) threads: Items<Thread>,
+    pub(crate) store: Store<Body>,
+    pub(crate) clock: u64,
+    pub(crate) bridged: Items<u64>,
 }
 
 impl Model for CountedCore {
     ghost use Rattle.kernel_values.specs.declared.state.CoreState.{CoreState};
-    ghost use Rattle.counted_core.specs.Sweeping.{core_of, IsCounted};
+    ghost use Rattle.counted_core.specs.Sweeping.{core_of};
+    ghost use Rattle.counted_core.specs.Waiting.{IsExact};
 
     ghost Value = { CoreState };
 
     ghost view = { λ k. core_of k.apps k.threads k.store.items k.store.next k.clock k.bridged };
 
-    ghost invariant = { λ k. IsCounted (core_of k.apps k.threads k.store.items k.store.next k.clock k.bridged) k.store.items };
+    ghost invariant = { λ k. IsExact (core_of k.apps k.threads k.store.items k.store.next k.clock k.bridged) k.store.items };
 }
 
 fn end_at(store: &Store<Body>, id: u64) -> Option<&ChannelEnd>
@@ -148,9 +151,7 @@ impl CountedCore {
         ensures err { OnErr result (self.new ≡ self.old) }
     {
         self.store.sound();
-        if u64::MAX - self.store.total() < parts.len() as u64 {
-            return Err(NoMemory);
-        }
+        reserve_names(&self.store, &self.threads, parts.len())?;
         push_message(&mut self.store, id, bytes, parts)?;
         name_all(&mut self.store, parts.as_slice());
         Ok(())

@@ -5,4 +5,5 @@ pub mod apps;
 pub mod counts;
 pub mod ends;
 pub mod pushes;
+pub mod room;
 pub mod sweep;

@@ -1,4 +1,4 @@
-use Rattle.std.proofs.Common.{refl, sym, ◌∙◌, ap}
+use Rattle.std.proofs.Common.{sym, ◌∙◌, ap}
 use Rattle.std.specs.Option.{is_some}
 use Rattle.counted_core.proofs.Naming.{memory_value}
 use Rattle.counted_core.proofs.counts.CountedCore.is_memory.Goals as goal
