@@ -7,3 +7,5 @@ pub mod Naming
 pub mod Quiet
 pub mod Installs
 pub mod Totals
+pub mod Waits
+pub mod Walks

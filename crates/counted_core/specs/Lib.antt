@@ -3,3 +3,4 @@ pub mod Held
 pub mod Sending
 pub mod Sweeping
 pub mod Waiting
+pub mod Walking

@@ -7,3 +7,4 @@ pub mod ends;
 pub mod pushes;
 pub mod room;
 pub mod sweep;
+pub mod threads;
