@@ -6,6 +6,6 @@ pub mod Roots
 pub mod Naming
 pub mod Quiet
 pub mod Installs
-pub mod Totals
-pub mod Waits
-pub mod Walks
+pub mod Moves
+pub mod Retires
+pub mod Entries

@@ -1,26 +1,19 @@
 //! The core with its counts: at every moment it stands for one state of the model, in which each object's count is exact.
 
-ghost use Rattle.std.specs.Prelude.{◌≡◌, IsSome, OnOk, OnErr, Some, option_copied};
-ghost use Rattle.std.specs.Option.{is_some, option_map};
+ghost use Rattle.std.specs.Prelude.{◌≡◌, Some};
+ghost use Rattle.std.specs.Option.{option_map};
 ghost use Rattle.handle_table.specs.Places.{slot_entry};
 ghost use Rattle.kernel_types.specs.Sweep.{sweep};
 ghost use Rattle.kernel_types.specs.Reports.{with_last_reported};
 ghost use Rattle.kernel_types.specs.Tables.{entry_at, remove_entry, table_of, with_cookie, with_table};
-ghost use Rattle.object_store.specs.Stock.{value_at};
 ghost use Rattle.count_laws.specs.Dropping.{Ranked};
+ghost use Rattle.counted_core.specs.Sending.{AllHeldThere};
 ghost use Rattle.count_laws.specs.Thinning.{Fit};
-ghost use Rattle.counted_core.specs.Sending.{AllThere, end_if, memory_if};
-ghost use Rattle.kernel_types.specs.Messages.{with_message};
-ghost use Rattle.kernel_types.specs.Objects.{end_changed, end_of, memory_of};
-ghost use Rattle.counted_core.specs.EndChanges.{end_after};
 
 use crate::apps::AppState;
-use crate::ends::{EndChange, change_in};
-use crate::pushes::{name_all, push_message};
-use crate::room::reserve_names;
-use crate::sweep::{self, key_of};
+use crate::sweep;
 use handle_table::Slot;
-use kernel_values::{Body, Bytes, ChannelEnd, Items, NoMemory, Thread};
+use kernel_values::{Body, Items, Thread};
 use object_store::Store;
 use std::alloc::Global;
 use std::marker::Model;
@@ -48,24 +41,6 @@ impl Model for CountedCore {
     ghost invariant = { λ k. IsExact (core_of k.apps k.threads k.store.items k.store.next k.clock k.bridged) k.store.items };
 }
 
-fn end_at(store: &Store<Body>, id: u64) -> Option<&ChannelEnd>
-    ensures { option_copied result ≡ end_if (value_at store.now.items id) }
-{
-    match store.get(key_of(id)) {
-        Some(Body::End(end)) => Some(end),
-        _ => None,
-    }
-}
-
-fn is_memory_at(store: &Store<Body>, id: u64) -> bool
-    ensures { result ≡ is_some (memory_if (value_at store.now.items id)) }
-{
-    match store.get(key_of(id)) {
-        Some(Body::Memory(_)) => true,
-        _ => false,
-    }
-}
-
 impl CountedCore {
     /// What a number of the application stands for, where it is in use.
     pub fn get(&self, app: u32, handle: u32) -> Option<Slot>
@@ -81,26 +56,11 @@ impl CountedCore {
         self.apps.allocator()
     }
 
-    /// The channel end of this number, where the object is one.
-    pub fn find_end(&self, id: u64) -> Option<&ChannelEnd>
-        ensures { option_copied result ≡ end_of self.now.objects id }
+    /// What holds of every core: what the numbers of tables name is there. It does nothing.
+    pub fn sound(&self)
+        ensures { AllHeldThere self.now }
     {
-        end_at(&self.store, id)
-    }
-
-    /// Whether the object of this number is a memory reference.
-    pub fn is_memory(&self, id: u64) -> bool
-        ensures { result ≡ is_some (memory_of self.now.objects id) }
-    {
-        is_memory_at(&self.store, id)
-    }
-
-    /// One end is changed, where there is one of this number. Takes no memory.
-    pub fn change_end(&mut self, id: u64, change: EndChange)
-        ensures { self.new ≡ end_changed (end_after change) id self.old }
-    {
-        self.store.sound();
-        change_in(&mut self.store, id, change);
+        let _ = &self.store;
     }
 
     /// The number goes from the application's table. Takes no memory.
@@ -136,25 +96,6 @@ impl CountedCore {
             return;
         };
         state.set_last(handle);
-    }
-
-    /// The message comes to the end of this number, and its parts are named once more. Refused, all stands as before.
-    pub fn add_message(
-        &mut self,
-        id: u64,
-        bytes: &Bytes,
-        parts: &Items<u64>,
-    ) -> Result<(), NoMemory>
-        requires end { IsSome (end_of self.old.objects id) }
-        requires parts { AllThere parts.now self.old }
-        ensures ok { OnOk result (self.new ≡ end_changed (with_message bytes.now parts.now) id self.old) }
-        ensures err { OnErr result (self.new ≡ self.old) }
-    {
-        self.store.sound();
-        reserve_names(&self.store, &self.threads, parts.len())?;
-        push_message(&mut self.store, id, bytes, parts)?;
-        name_all(&mut self.store, parts.as_slice());
-        Ok(())
     }
 
     /// Ends what nothing reaches any more. Takes no memory.

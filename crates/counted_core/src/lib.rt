@@ -4,6 +4,8 @@
 pub mod apps;
 pub mod counts;
 pub mod ends;
+pub mod looks;
+pub mod messages;
 pub mod pushes;
 pub mod room;
 pub mod sweep;

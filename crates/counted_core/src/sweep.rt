@@ -122,7 +122,7 @@ fn lister(store: &Store<Body>, server: u64) -> Option<u64>
     None
 }
 
-fn unname_all(store: &mut Store<Body>, serials: &[u64])
+pub fn unname_all(store: &mut Store<Body>, serials: &[u64])
     ensures items { store.new.items ≡ fold unnamed store.old.items serials.now }
     ensures next { store.new.next ≡ store.old.next }
 {
