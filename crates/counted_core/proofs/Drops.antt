@@ -198,7 +198,7 @@ value_in (h ∷ rest) at v is =
 times_first : (x : ℕ) (xs : List ℕ) (o : ℕ) → times (x ∷ xs) o ≡ cond (x == o) 1 0 + times xs o
 times_first x xs o = sum_by-cons (λ y. cond (y == o) 1 0) x xs
 
-times_in : (xs : List ℕ) (o : ℕ) → is_in xs o ≡ true → 1 ≤ times xs o
+pub times_in : (xs : List ℕ) (o : ℕ) → is_in xs o ≡ true → 1 ≤ times xs o
 times_in [] o is = absurd (cc)
 times_in (x ∷ xs) o is =
     let P : Bool → Type 0 = λ b. (b || is_in xs o) ≡ true → 1 ≤ cond b 1 0 + times xs o in

@@ -1,21 +1,26 @@
 -- What the numbers of a table name is there.
-use Rattle.std.proofs.Common.{◌≡◌, ℕ, zero, suc, ◌+◌, ◌≤◌, Bool, true, false, cond, ◌&&◌, ◌||◌, ◌==◌, List, [], ◌∷◌, ◌++◌, map, Some, refl, ◌∙◌, ap, subst, arith, tests}
+use Rattle.std.proofs.Common.{◌≡◌, ℕ, zero, suc, ◌+◌, ◌≤◌, Bool, true, false, cond, ◌&&◌, ◌||◌, ◌==◌, List, [], ◌∷◌, ◌++◌, map, Option, Some, None, refl, sym, ◌∙◌, ap, subst, arith, tests}
 use Rattle.std.specs.Prelude.{slice_get}
 use Rattle.std.specs.List.{flat_map, list_all}
-use Rattle.std.specs.Option.{is_some}
+use Rattle.std.specs.Option.{is_some, option_map}
 use Rattle.kernel_values.specs.declared.state.Application.{Application}
 use Rattle.kernel_values.specs.declared.state.Body.{Body}
 use Rattle.kernel_values.specs.declared.state.CoreState.{CoreState}
 use Rattle.kernel_values.specs.declared.state.TableEntry.{TableEntry}
+use Rattle.kernel_values.specs.declared.state.Body.TheVariants as body
+use Rattle.core_changes.specs.Looks.{pending_in}
 use Rattle.kernel_types.specs.Messages.{entry_object, is_in_table, part_objects}
-use Rattle.kernel_types.specs.Names.{Name, names_of, root, table_names}
+use Rattle.kernel_types.specs.Names.{Name, named_in, names_of, root, table_names}
 use Rattle.kernel_types.specs.Objects.{is_there}
 use Rattle.kernel_types.specs.Reach.{is_in}
 use Rattle.kernel_types.specs.Tables.{entry_at, table_in, table_of}
-use Rattle.object_store.specs.Stock.{Held, names_at}
-use Rattle.counted_core.specs.Held.{objects_of, tally}
-use Rattle.counted_core.specs.Sending.{AllHeldThere}
+use Rattle.object_store.specs.Stock.{Held, held_at, names_at, value_at}
+use Rattle.counted_core.specs.Held.{objects_of, tally, times}
+use Rattle.counted_core.specs.Found.{port_if}
+use Rattle.counted_core.specs.Sending.{AllHeldThere, AllPendingThere}
 use Rattle.counted_core.specs.Sweeping.{IsCounted, at, rooted}
+use Rattle.counted_core.proofs.Drops.{times_in}
+use Rattle.counted_core.proofs.Naming.{port_value}
 use Rattle.counted_core.proofs.Owing.{absent_names}
 use Rattle.counted_core.proofs.Roots.{rooted_split}
 use Rattle.counted_core.proofs.Sweeps.{both_names, first_name}
@@ -84,3 +89,38 @@ parts_there c app (handle ∷ parts) there all o h =
       | false ↦ (λ e g. parts_there c app parts there both.1 o g)
     ] in
     go (part == o) refl h
+
+-- what an object names is there
+
+names_least : (items : List (Held Body)) (id o : ℕ) (b : Body) → value_at items id ≡ Some b → times (named_in b) o ≤ tally (objects_of items) o
+names_least [] id o b is = absurd (cc)
+names_least (h ∷ rest) id o b is =
+    let P : Bool → Type 0 = λ t. option_map (λ (k : Held Body). k.value) (cond t (Some h) (held_at rest id)) ≡ Some b → times (named_in b) o ≤ times (named_in h.value) o + tally (objects_of rest) o in
+    let go : (t : Bool) → P t = λ t. elim t as (λ v. P v) [
+      | true ↦ (λ e. let same : h.value ≡ b = cc in let here : times (named_in h.value) o ≡ times (named_in b) o = ap (λ v. times (named_in v) o) same in omega (arith, here))
+      | false ↦ (λ e. let more : times (named_in b) o ≤ tally (objects_of rest) o = names_least rest id o b e in omega (arith, more))
+    ] in
+    go (h.serial == id) is
+
+named_there : (k : CoreState) (items : List (Held Body)) (id o : ℕ) (b : Body) → IsCounted k items → value_at items id ≡ Some b → 1 ≤ times (named_in b) o → is_there (objects_of items) o ≡ true
+named_there k items id o b counted is some =
+    let sum : names_at items o ≡ rooted k o + tally (objects_of items) o + 0 + cond (is_there (objects_of items) o) 1 0 = counted.counts o in
+    let least : times (named_in b) o ≤ tally (objects_of items) o = names_least items id o b is in
+    let P : Bool → Type 0 = λ t. is_there (objects_of items) o ≡ t → names_at items o ≡ rooted k o + tally (objects_of items) o + 0 + cond t 1 0 → t ≡ true in
+    let go : (t : Bool) → P t = λ t. elim t as (λ v. P v) [
+      | true ↦ (λ e f. refl)
+      | false ↦ (λ e f. let none : names_at items o ≡ 0 = absent_names items o e in absurd (omega (arith, f, none, some, least)))
+    ] in
+    go (is_there (objects_of items) o) refl sum
+
+pub pending_there : (k : CoreState) (items : List (Held Body)) → IsCounted k items → AllPendingThere (at k items)
+pending_there k items counted port o h =
+    let P : Option Body → Type 0 = λ v. value_at items port ≡ v → is_in (pending_in (port_if v)) o ≡ true → is_there (objects_of items) o ≡ true in
+    let of_body : (b : Body) → P (Some b) = λ b. elim b as (λ w. P (Some w)) [
+      | body.Port p ↦ (λ e i. named_there k items port o (body.Port p) counted e (times_in p.pending o i))
+      | body.End end ↦ (λ e i. absurd (cc))
+      | body.Set set ↦ (λ e i. absurd (cc))
+      | body.Memory memory ↦ (λ e i. absurd (cc))
+    ] in
+    let go : (v : Option Body) → P v = λ v. elim v as (λ w. P w) [ None ↦ (λ e i. absurd (cc)) | Some b ↦ of_body b ] in
+    go (value_at items port) refl (sym (ap (λ p. is_in (pending_in p) o) (port_value items port)) ∙ h)

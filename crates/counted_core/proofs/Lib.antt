@@ -6,6 +6,15 @@ pub mod Roots
 pub mod Naming
 pub mod Quiet
 pub mod Installs
+pub mod Totals
+pub mod Walks
+pub mod Waits
 pub mod Moves
 pub mod Retires
+pub mod Leaves
+pub mod Joins
+pub mod Overwrites
+pub mod Bridges
 pub mod Entries
+pub mod Publishing
+pub mod Pending

@@ -15,7 +15,7 @@ absent_is (h ∷ rest) o is =
     let go : (b : Bool) → P b = λ b. elim b as (λ v. P v) [ true ↦ (λ e. absurd (cc)) | false ↦ (λ e. absent_is rest o e) ] in
     go (h.serial == o) is
 
-absent_value : (items : List (Held Body)) (o : ℕ) → is_there (objects_of items) o ≡ false → value_at items o ≡ None
+pub absent_value : (items : List (Held Body)) (o : ℕ) → is_there (objects_of items) o ≡ false → value_at items o ≡ None
 absent_value [] o is = refl
 absent_value (h ∷ rest) o is =
     let P : Bool → Type 0 = λ b. (b || is_there (objects_of rest) o) ≡ false → option_map (λ (k : Held Body). k.value) (cond b (Some h) (held_at rest o)) ≡ None in

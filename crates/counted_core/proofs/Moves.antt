@@ -8,12 +8,14 @@ use Rattle.kernel_values.specs.declared.state.Object.{Object}
 use Rattle.kernel_laws.proofs.Found.{found}
 use Rattle.kernel_types.specs.Names.{named_in}
 use Rattle.kernel_types.specs.Objects.{changed as placed, is_there}
+use Rattle.kernel_types.specs.Reach.{is_in}
 use Rattle.object_store.specs.Stock.{Held, IsSoundFrom, changed, held_at, names_at, on_serial, unnamed, value_at, with_value}
 use Rattle.counted_core.specs.Held.{IsOwed, object_of_held, objects_of, on_value, tally, times}
+use Rattle.counted_core.specs.Sending.{named_more}
 use Rattle.counted_core.specs.Sweeping.{IsCounted, rooted}
 use Rattle.counted_core.proofs.Drops.{changed_names, changed_sound, changed_there, changed_value, held_found}
 use Rattle.counted_core.proofs.Loans.{lent_none}
-use Rattle.counted_core.proofs.Naming.{Pushed, placed_changed, tally_moved}
+use Rattle.counted_core.proofs.Naming.{AllNamed, IsLacking, Pushed, changed_same, names_all, placed_changed, tally_moved}
 use Rattle.counted_core.proofs.Owing.{Settled, settles}
 
 abbrev same_count : ℕ → ℕ → Type 0
@@ -107,3 +109,52 @@ relists k f g h kept debts next id v items sound counted is before after same =
             omega (arith, was, more, names, there);
       };
     }
+
+-- a change that leaves the value that is there
+pub pushed_else : (k : CoreState) (g : Body → Body) (next id : ℕ) (items : List (Held Body)) → IsSoundFrom 0 items next → IsCounted k items → ((v : Body) → value_at items id ≡ Some v → g v ≡ v) → Pushed k g next id items items
+pushed_else k g next id items sound counted leaves =
+    let P : Option Body → Type 0 = λ v. value_at items id ≡ v → Pushed k g next id items items in
+    let go : (v : Option Body) → P v = λ v. elim v as (λ w. P w) [
+      | None ↦ (λ e. pushed_none k g next id items sound counted e)
+      | Some b ↦ (λ e.
+          let same : changed items id (on_value g) ≡ items =
+          sym (changed_value g 0 next id b items sound e) ∙ (ap (λ w. changed items id (with_value w)) (leaves b e) ∙ (changed_value (λ w. w) 0 next id b items sound e ∙ changed_same id items)) in
+          record { same = ap objects_of (sym same) ∙ placed_changed g 0 next id items sound; counted = counted })
+    ] in
+    go (value_at items id) refl
+
+-- a value comes to name more
+pub moves_more : (k : CoreState) (f : Body → Body) (lacks : List ℕ) (next id : ℕ) (v : Body) (items : List (Held Body)) → IsSoundFrom 0 items next → IsCounted k items → value_at items id ≡ Some v
+    → ((o : ℕ) → times (named_in (f v)) o + 0 ≡ times (named_in v) o + times lacks o)
+    → ((o : ℕ) → is_in lacks o ≡ true → is_there (objects_of items) o ≡ true)
+    → Pushed k f next id items (fold named_more (changed items id (on_value f)) lacks)
+moves_more k f lacks next id v items sound counted is names there =
+    let left : List (Held Body) = changed items id (on_value f) in
+    let lacking : IsLacking (rooted k) left lacks = record {
+      counts = λ o.
+          let was : names_at items o ≡ rooted k o + tally (objects_of items) o + 0 + cond (is_there (objects_of items) o) 1 0 = counted.counts o in
+          let more : tally (objects_of left) o + 0 ≡ tally (objects_of items) o + times lacks o = tally_moved f 0 (times lacks o) o 0 next id v items sound is (names o) in
+          let same_names : names_at left o ≡ names_at items o = changed_names f id items o in
+          let same_there : same_count (cond (is_there (objects_of left) o) 1 0) (cond (is_there (objects_of items) o) 1 0) = ap (λ (b : Bool). cond b 1 0) (changed_there f id items o) in
+          omega (arith, was, more, same_names, same_there);
+    } in
+    let all : AllNamed (rooted k) next left (fold named_more left lacks) =
+    names_all (rooted k) next lacks left (changed_sound f 0 next id items sound) lacking (λ o h. changed_there f id items o ∙ there o h) in
+    record { same = all.same ∙ placed_changed f 0 next id items sound; counted = all.owed }
+
+-- a value comes to name fewer
+pub moves_less : (k : CoreState) (f : Body → Body) (debts : List ℕ) (next id : ℕ) (v : Body) (items : List (Held Body)) → IsSoundFrom 0 items next → IsCounted k items → value_at items id ≡ Some v
+    → ((o : ℕ) → times (named_in (f v)) o + times debts o ≡ times (named_in v) o + 0)
+    → Pushed k f next id items (fold unnamed (changed items id (on_value f)) debts)
+moves_less k f debts next id v items sound counted is names =
+    let left : List (Held Body) = changed items id (on_value f) in
+    let owed : IsOwed (rooted k) left debts = record {
+      counts = λ o.
+          let was : names_at items o ≡ rooted k o + tally (objects_of items) o + 0 + cond (is_there (objects_of items) o) 1 0 = counted.counts o in
+          let less : tally (objects_of left) o + times debts o ≡ tally (objects_of items) o + 0 = tally_moved f (times debts o) 0 o 0 next id v items sound is (names o) in
+          let same_names : names_at left o ≡ names_at items o = changed_names f id items o in
+          let same_there : same_count (cond (is_there (objects_of left) o) 1 0) (cond (is_there (objects_of items) o) 1 0) = ap (λ (b : Bool). cond b 1 0) (changed_there f id items o) in
+          omega (arith, was, less, same_names, same_there);
+    } in
+    let done : Settled (rooted k) next left (fold unnamed left debts) = settles (rooted k) next debts left (changed_sound f 0 next id items sound) owed in
+    record { same = done.same ∙ placed_changed f 0 next id items sound; counted = done.owed }

@@ -1,5 +1,5 @@
 -- What a message that is retired makes of the counts.
-use Rattle.std.proofs.Common.{◌≡◌, ℕ, ◌+◌, ◌==◌, true, false, cond, List, [], ◌∷◌, ◌++◌, not, Option, Some, None, refl, ◌∙◌, ap, subst, arith}
+use Rattle.std.proofs.Common.{◌≡◌, ℕ, ◌+◌, ◌≤◌, ◌==◌, true, false, cond, List, [], ◌∷◌, ◌++◌, not, Option, Some, None, refl, ◌∙◌, ap, subst, arith}
 use Rattle.std.specs.List.{filter, flat_map, fold}
 use Rattle.std.proofs.lemmas.List.Sums.{sum_by-append}
 use Rattle.kernel_values.specs.declared.state.Body.{Body}
@@ -10,7 +10,7 @@ use Rattle.core_changes.specs.Looks.{messages_in}
 use Rattle.kernel_types.specs.Messages.{is_opened_as, without_opened}
 use Rattle.kernel_types.specs.Names.{message_objects, named_in}
 use Rattle.kernel_types.specs.Objects.{on_end}
-use Rattle.object_store.specs.Stock.{Held, IsSoundFrom, unnamed, value_at}
+use Rattle.object_store.specs.Stock.{Held, IsSoundFrom, total_names, unnamed, value_at}
 use Rattle.plain_objects.specs.Predicates.{is_another}
 use Rattle.counted_core.specs.Found.{end_if}
 use Rattle.counted_core.specs.Held.{changed_if, times}
@@ -19,6 +19,7 @@ use Rattle.counted_core.specs.Sweeping.{IsCounted}
 use Rattle.counted_core.proofs.Loans.{lent_none}
 use Rattle.counted_core.proofs.Moves.{pushed_none, relists}
 use Rattle.counted_core.proofs.Naming.{Pushed}
+use Rattle.counted_core.proofs.Totals.{all_less_total, if_total}
 
 both_times : (o : ℕ) (xs ys : List ℕ) → times (xs ++ ys) o ≡ times xs o + times ys o
 both_times o xs ys = sum_by-append (λ y. cond (y == o) 1 0) xs ys
@@ -83,3 +84,9 @@ retires k number next id items sound counted =
       | Some b ↦ (λ e. relists k empty g (put_back number (Some b)) (kept_count number (Some b)) (gone_parts number (Some b)) next id b items sound counted e (before number b) (after number b) (same_body number b))
     ] in
     go (value_at items id) refl
+
+pub retired_total : (number id : ℕ) (messages : List Message) (items : List (Held Body)) → total_names (retired_items number id messages items) ≤ total_names items
+retired_total number id messages items =
+    let one : List (Held Body) = changed_if (on_end (holding [])) (Some id) items in
+    let two : List (Held Body) = fold unnamed one (flat_map (opened_parts number) messages) in
+    omega (arith, if_total (on_end (holding [])) (Some id) items, all_less_total (flat_map (opened_parts number) messages) one, if_total (on_end (holding (filter (is_another number) messages))) (Some id) two)

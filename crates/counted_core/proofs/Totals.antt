@@ -57,7 +57,7 @@ all_less_total (d ∷ debts) items = omega (arith, all_less_total debts (unnamed
 pub changed_total_most : (f : Body → Body) (at : ℕ) (items : List (Held Body)) → total_names (changed items at (on_value f)) ≤ total_names items
 changed_total_most f at items = omega (arith, changed_total f at items)
 
-if_total : (f : Body → Body) (n : Option ℕ) (items : List (Held Body)) → total_names (changed_if f n items) ≡ total_names items
+pub if_total : (f : Body → Body) (n : Option ℕ) (items : List (Held Body)) → total_names (changed_if f n items) ≡ total_names items
 if_total f None items = refl
 if_total f (Some n) items = changed_total f n items
 

@@ -1,6 +1,10 @@
+pub mod Accepting
+pub mod Bridged
 pub mod EndChanges
 pub mod Found
 pub mod Held
+pub mod Members
+pub mod Paths
 pub mod Retiring
 pub mod Sending
 pub mod Sweeping

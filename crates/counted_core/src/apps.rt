@@ -7,7 +7,7 @@ ghost use Rattle.handle_table.specs.Tables.{IsTableFrom};
 ghost use Rattle.kernel_types.specs.Tables.{entry_at, free_handle, installed, with_cookie, without};
 
 use handle_table::{Full, Slot, Table};
-use kernel_values::Manifest;
+use kernel_values::{Manifest, StartPort};
 use object_store::ObjKey;
 use std::marker::Model;
 
@@ -75,5 +75,50 @@ impl AppState {
         ensures { IsTableFrom 0 self.now.table }
     {
         self.table.sound();
+    }
+}
+
+// What a connect looks for.
+impl AppState {
+    ghost use Rattle.std.specs.Option.{option_copied};
+    ghost use Rattle.kernel_types.specs.Applications.{has_start_port};
+    ghost use Rattle.kernel_types.specs.Connects.{may_serve, start_flags, uuid_of_app};
+
+    /// Whether it has this start port.
+    pub fn has_start_port(&self, path: &[u8]) -> bool
+        ensures { result ≡ has_start_port path.now self.now }
+    {
+        for port in self.manifest.ports.as_slice() {
+            if port.path.as_slice() == path {
+                return true;
+            }
+        }
+        false
+    }
+
+    /// The start port of this path, where it has one.
+    pub fn start_port(&self, path: &[u8]) -> Option<&StartPort>
+        ensures { option_copied result ≡ start_flags path.now self.now }
+    {
+        for port in self.manifest.ports.as_slice() {
+            if port.path.as_slice() == path {
+                return Some(port);
+            }
+        }
+        None
+    }
+
+    /// Whether it runs or has a start left.
+    pub fn may_serve(&self) -> bool
+        ensures { result ≡ may_serve self.now }
+    {
+        self.running || self.starts < 4
+    }
+
+    /// Its UUID.
+    pub fn uuid(&self) -> u128
+        ensures { result ≡ uuid_of_app (Some self.now) }
+    {
+        self.manifest.uuid
     }
 }

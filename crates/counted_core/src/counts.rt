@@ -7,7 +7,7 @@ ghost use Rattle.kernel_types.specs.Sweep.{sweep};
 ghost use Rattle.kernel_types.specs.Reports.{with_last_reported};
 ghost use Rattle.kernel_types.specs.Tables.{entry_at, remove_entry, table_of, with_cookie, with_table};
 ghost use Rattle.count_laws.specs.Dropping.{Ranked};
-ghost use Rattle.counted_core.specs.Sending.{AllHeldThere};
+ghost use Rattle.counted_core.specs.Sending.{AllHeldThere, AllPendingThere};
 ghost use Rattle.count_laws.specs.Thinning.{Fit};
 
 use crate::apps::AppState;
@@ -59,6 +59,13 @@ impl CountedCore {
     /// What holds of every core: what the numbers of tables name is there. It does nothing.
     pub fn sound(&self)
         ensures { AllHeldThere self.now }
+    {
+        let _ = &self.store;
+    }
+
+    /// What ports list is there. It does nothing.
+    pub fn sound_ports(&self)
+        ensures { AllPendingThere self.now }
     {
         let _ = &self.store;
     }

@@ -18,6 +18,7 @@ ghost use Rattle.object_store.specs.Stock.{unnamed, value_at};
 use crate::counts::CountedCore;
 use crate::ends::{EndChange, change_in};
 use crate::pushes::{name_all, push_message};
+use crate::room::reserve_names;
 use crate::sweep::{key_of, unname_all};
 use core_changes::core_changes::Mark;
 use kernel_values::{Body, Bytes, Items, Message, NoMemory};
@@ -123,7 +124,7 @@ fn retire_in(store: &mut Store<Body>, alloc: Global, id: u64, number: u32)
 
 impl CountedCore {
     #[tactic(auto, unfolding(crate::specs::Sending::held_object))]
-    fn part_object(&self, app: u32, handle: u32) -> u64
+    pub(crate) fn held_object(&self, app: u32, handle: u32) -> u64
         ensures { result ≡ held_object self.now app handle }
     {
         match self.get(app, handle) {
@@ -138,7 +139,7 @@ impl CountedCore {
     {
         let mut objects = Items::new(self.allocator());
         for handle in parts {
-            objects.push(self.part_object(app, *handle))?;
+            objects.push(self.held_object(app, *handle))?;
         }
         Ok(objects)
     }
@@ -151,7 +152,7 @@ impl CountedCore {
         ensures err { OnErr result (self.new ≡ self.old) }
     {
         self.store.sound();
-        self.store.reserve_names(parts.len() as u64)?;
+        reserve_names(&self.store, &self.threads, parts.len())?;
         push_message(&mut self.store, id, bytes, parts)?;
         name_all(&mut self.store, parts.as_slice());
         Ok(())

@@ -5,4 +5,4 @@ use Rattle.counted_core.proofs.counts.CountedCore.sound.Goals as goal
 pub returns : goal.returns
 returns c =
     let k = core_of c.self.inside.apps c.self.inside.threads c.self.inside.store.items c.self.inside.store.next c.self.inside.clock c.self.inside.bridged in
-    rw (← c.self.view_is) (held_there k c.self.inside.store.items c.self.invariant)
+    rw (← c.self.view_is) (held_there k c.self.inside.store.items c.self.invariant.counted)
