@@ -124,3 +124,7 @@ pending_there k items counted port o h =
     ] in
     let go : (v : Option Body) → P v = λ v. elim v as (λ w. P w) [ None ↦ (λ e i. absurd (cc)) | Some b ↦ of_body b ] in
     go (value_at items port) refl (sym (ap (λ p. is_in (pending_in p) o) (port_value items port)) ∙ h)
+
+pub there_held : (items : List (Held Body)) (id : ℕ) → is_some (held_at items id) ≡ is_there (objects_of items) id
+there_held [] id = refl
+there_held (h ∷ rest) id = elim (h.serial == id) as (λ b. is_some (cond b (Some h) (held_at rest id)) ≡ b || is_there (objects_of rest) id) [ true ↦ refl | false ↦ there_held rest id ]

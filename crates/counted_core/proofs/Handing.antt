@@ -1,7 +1,7 @@
 -- What a new number of a table makes of the counts.
-use Rattle.std.proofs.Common.{◌≡◌, ℕ, zero, suc, ◌+◌, ◌<◌, ◌≤◌, ◌^◌, true, cond, ◌==◌, length, List, [], ◌∷◌, ◌++◌, take, drop, map, Some, subst, arith, tests}
+use Rattle.std.proofs.Common.{◌≡◌, ℕ, zero, suc, ◌+◌, ◌<◌, ◌^◌, true, false, cond, ◌==◌, length, List, [], ◌∷◌, ◌++◌, take, drop, map, Some, subst, arith, tests}
 use Rattle.std.proofs.lemmas.List.Sums.{sum_by-cons}
-use Rattle.std.specs.Prelude.{slice_get, slice_set}
+use Rattle.std.specs.Prelude.{nat_le, slice_get, slice_set}
 use Rattle.std.specs.List.{flat_map}
 use Rattle.kernel_values.specs.declared.state.Application.{Application}
 use Rattle.kernel_values.specs.declared.state.Body.{Body}
@@ -10,7 +10,7 @@ use Rattle.kernel_values.specs.declared.state.TableEntry.{TableEntry}
 use Rattle.kernel_values.specs.declared.state.Thread.{Thread}
 use Rattle.kernel_types.specs.Names.{Name, names_of, root, table_names}
 use Rattle.kernel_types.specs.Objects.{is_there}
-use Rattle.kernel_types.specs.Tables.{installed}
+use Rattle.kernel_types.specs.Tables.{handle_limit, installed, is_full}
 use Rattle.object_store.specs.Stock.{Held, IsSoundFrom, names_at, total_names}
 use Rattle.counted_core.specs.Held.{objects_of, tally, times}
 use Rattle.counted_core.specs.Sending.{named_more}
@@ -56,3 +56,7 @@ hands apps threads items next clock bridged at object a is there sound exact roo
     (λ o h. let same : object ≡ o = grind (arith, tests) in subst (λ n. is_there (objects_of items) n ≡ true) same there) in
     let more : More 0 next object items = name_one 0 next object items sound in
     record { same = all.same; exact = record { counted = all.owed; waitable = named_waitable threads 1 items (named_more items object) more.total room } }
+
+pub not_full : (table : List TableEntry) → is_full table ≡ false → length table ≡ 64 → ⊥
+unfolding is_full
+not_full table room full = let clash : true ≡ false = subst (λ n. nat_le handle_limit n ≡ false) full room in absurd (cc)

@@ -1,6 +1,5 @@
 -- What a member that comes to a set makes of the counts.
 use Rattle.std.proofs.Common.{◌≡◌, ℕ, ◌+◌, ◌≤◌, ◌<◌, ◌^◌, ◌==◌, ◌||◌, Bool, true, false, cond, length, List, [], ◌∷◌, ◌++◌, map, Option, Some, None, refl, sym, ◌∙◌, ap, subst, arith, tests}
-use Rattle.std.specs.List.{fold}
 use Rattle.std.specs.Option.{is_some}
 use Rattle.std.proofs.lemmas.List.Sums.{sum_by-cons}
 use Rattle.kernel_values.specs.declared.state.Body.{Body}
@@ -17,7 +16,7 @@ use Rattle.counted_core.specs.Found.{set_if}
 use Rattle.counted_core.specs.Held.{objects_of, on_value, times}
 use Rattle.counted_core.specs.Sending.{named_more}
 use Rattle.counted_core.specs.Sweeping.{IsCounted}
-use Rattle.counted_core.specs.Waiting.{IsExact, IsWaitable}
+use Rattle.counted_core.specs.Waiting.{IsWaitable}
 use Rattle.counted_core.proofs.Drops.{changed_sound}
 use Rattle.counted_core.proofs.Moves.{moves_more, pushed_else}
 use Rattle.counted_core.proofs.Naming.{More, Pushed, changed_total, name_one, set_value}

@@ -17,4 +17,5 @@ pub mod Overwrites
 pub mod Bridges
 pub mod Entries
 pub mod Publishing
+pub mod Handing
 pub mod Pending

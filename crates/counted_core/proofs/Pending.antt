@@ -1,12 +1,13 @@
 -- What becomes of the counts where a server end is pending no more.
-use Rattle.std.proofs.Common.{◌≡◌, ℕ, ◌+◌, ◌≤◌, ◌==◌, cond, List, [], ◌∷◌, Option, Some, None, refl, sym, ◌∙◌, ap, arith}
+use Rattle.std.proofs.Common.{◌≡◌, ℕ, ◌+◌, ◌≤◌, ◌==◌, ◌||◌, true, cond, length, List, [], ◌∷◌, Option, Some, None, refl, sym, ◌∙◌, ap, arith, tests}
 use Rattle.std.proofs.lemmas.List.Sums.{sum_by-cons}
+use Rattle.std.specs.Prelude.{slice_index_or}
 use Rattle.kernel_values.specs.declared.state.Body.{Body}
 use Rattle.kernel_values.specs.declared.state.Body.TheVariants as body
 use Rattle.kernel_values.specs.declared.state.CoreState.{CoreState}
 use Rattle.core_changes.specs.Looks.{pending_in}
-use Rattle.kernel_types.specs.Names.{named_in}
 use Rattle.kernel_types.specs.Objects.{on_port, port_of}
+use Rattle.kernel_types.specs.Reach.{is_in}
 use Rattle.object_store.specs.Stock.{Held, IsSoundFrom, changed, total_names, unnamed, value_at}
 use Rattle.counted_core.specs.Accepting.{listing}
 use Rattle.counted_core.specs.Found.{port_if}
@@ -42,3 +43,8 @@ takes_first k server rest next port items sound counted is =
 
 pub first_total : (f : Body → Body) (server port : ℕ) (items : List (Held Body)) → total_names (unnamed (changed items port (on_value f)) server) ≤ total_names items
 first_total f server port items = omega (arith, less_total (changed items port (on_value f)) server, changed_total f port items)
+
+-- the first of a list is in it
+pub first_listed : (pending : List ℕ) → 1 ≤ length pending → is_in pending (slice_index_or pending 0 0) ≡ true
+first_listed [] some = absurd (omega (arith, some))
+first_listed (server ∷ rest) some = let here : (server == server) ≡ true = grind (arith, tests) in ap (λ b. b || is_in rest server) here

@@ -11,7 +11,7 @@ use Rattle.core_changes.specs.declared.looks.WayLook.TheVariants as way
 use Rattle.kernel_laws.proofs.Found.{found_is}
 use Rattle.kernel_types.specs.Connects.{app_place, way_by_app, way_by_body, way_by_port, way_of}
 use Rattle.kernel_types.specs.Objects.{as_port, is_port_at, is_there, object_of, port_in, port_of, published}
-use Rattle.object_store.specs.Stock.{Held, IsSoundFrom, held_at, value_at}
+use Rattle.object_store.specs.Stock.{Held, IsSoundFrom, held_at}
 use Rattle.counted_core.specs.Found.{port_if}
 use Rattle.counted_core.specs.Held.{object_of_held, objects_of}
 use Rattle.counted_core.specs.Paths.{has_path_at, id_of}

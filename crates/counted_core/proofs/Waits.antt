@@ -1,8 +1,7 @@
 -- How changes of threads change what waits name.
-use Rattle.std.proofs.Common.{◌≡◌, ℕ, zero, suc, ◌+◌, ◌-◌, ◌<◌, ◌≤◌, ◌^◌, Bool, true, false, cond, ◌==◌, List, [], ◌∷◌, ◌++◌, length, map, Option, Some, None, refl, sym, ◌∙◌, ap, subst, arith, tests}
+use Rattle.std.proofs.Common.{◌≡◌, ℕ, zero, suc, ◌+◌, ◌-◌, ◌<◌, ◌≤◌, ◌^◌, Bool, true, cond, ◌==◌, List, [], ◌∷◌, ◌++◌, length, map, Some, refl, sym, ◌∙◌, ap, subst, arith, tests}
 use Rattle.std.specs.Prelude.{slice_get, slice_set}
-use Rattle.std.specs.List.{cons_option, flat_map, fold}
-use Rattle.std.specs.Option.{option_map_or}
+use Rattle.std.specs.List.{flat_map, fold}
 use Rattle.std.proofs.lemmas.List.{length-append}
 use Rattle.std.proofs.lemmas.List.Sums.{sum_by-cons}
 use Rattle.kernel_values.specs.declared.state.Activity.{Activity}
@@ -21,7 +20,7 @@ use Rattle.kernel_types.specs.Threads.{activity_changed, running_activity}
 use Rattle.object_store.specs.Stock.{Held, IsSoundFrom, names_at, total_names, unnamed}
 use Rattle.counted_core.specs.Held.{IsOwed, objects_of, tally, times}
 use Rattle.counted_core.specs.Sending.{named_more}
-use Rattle.counted_core.specs.Sweeping.{IsCounted, core_of, rooted}
+use Rattle.counted_core.specs.Sweeping.{core_of, rooted}
 use Rattle.counted_core.specs.Waiting.{IsExact, IsWaitable, waited_in}
 use Rattle.counted_core.proofs.Naming.{AllNamed, IsLacking, More, name_one, names_all}
 use Rattle.counted_core.proofs.Owing.{Settled, settles}

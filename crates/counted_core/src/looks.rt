@@ -8,7 +8,7 @@ ghost use Rattle.core_changes.specs.Looks.{bytes_in, look_of_end, look_of_memory
 ghost use Rattle.counted_core.specs.Found.{end_if, memory_if, port_if, set_if};
 ghost use Rattle.kernel_types.specs.Events.{is_filled};
 ghost use Rattle.kernel_types.specs.Messages.{free_id, is_opened_as};
-ghost use Rattle.kernel_types.specs.Objects.{end_of, memory_of, port_of, set_of};
+ghost use Rattle.kernel_types.specs.Objects.{end_of, is_there, memory_of, port_of, set_of};
 ghost use Rattle.object_store.specs.Stock.{value_at};
 
 use crate::counts::CountedCore;
@@ -140,6 +140,13 @@ impl CountedCore {
         ensures { option_copied result ≡ memory_of self.now.objects id }
     {
         memory_at(&self.store, id)
+    }
+
+    /// Whether there is an object with this number.
+    pub fn is_there(&self, id: u64) -> bool
+        ensures { result ≡ is_there self.now.objects id }
+    {
+        self.store.lives(key_of(id))
     }
 
     /// What is seen of the channel end of this number.

@@ -177,7 +177,7 @@ impl CountedCore {
         self.add_message(to, bytes, &objects)
     }
 
-    fn change_end(&mut self, id: u64, change: EndChange)
+    pub(crate) fn change_end(&mut self, id: u64, change: EndChange)
         ensures { self.new ≡ end_changed (end_after change) id self.old }
     {
         self.store.sound();

@@ -1,4 +1,4 @@
-use Rattle.std.proofs.Common.{arith, ◌≡◌, ◌+◌, ◌≤◌, ◌<◌, length, ap, ◌∙◌, sym}
+use Rattle.std.proofs.Common.{arith, ap, ◌∙◌, sym}
 use Rattle.std.specs.Option.{option_copied_mut}
 use Rattle.counted_core.proofs.Overwrites.{has_item, writes_more}
 use Rattle.counted_core.proofs.memories.overwrite.Goals.{in-Some, in_default}

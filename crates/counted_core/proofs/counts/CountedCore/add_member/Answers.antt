@@ -1,12 +1,9 @@
 use Rattle.std.proofs.Common.{◌≡◌, true, refl, sym, ◌∙◌, ap, subst, ℕ, List}
-use Rattle.std.specs.Option.{is_some}
 use Rattle.kernel_values.specs.declared.state.CoreState.{CoreState}
 use Rattle.kernel_values.specs.declared.state.Object.{Object}
 use Rattle.kernel_types.specs.Objects.{is_there, on_set, set_changed, with_objects}
 use Rattle.kernel_types.specs.Sets.{new_member, with_member}
-use Rattle.object_store.specs.Stock.{changed}
-use Rattle.counted_core.specs.Held.{on_value}
-use Rattle.counted_core.specs.Sending.{held_object, named_more}
+use Rattle.counted_core.specs.Sending.{held_object}
 use Rattle.counted_core.specs.Sweeping.{core_of}
 use Rattle.counted_core.proofs.Joins.{adds_member, no_member, one_waitable}
 use Rattle.counted_core.proofs.counts.CountedCore.add_member.Goals as goal

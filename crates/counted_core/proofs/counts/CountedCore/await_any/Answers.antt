@@ -4,9 +4,9 @@ use Rattle.std.specs.Option.{option_copied_mut}
 use Rattle.kernel_values.specs.declared.state.Activity.TheVariants as activity
 use Rattle.kernel_values.specs.declared.state.Thread.{Thread}
 use Rattle.kernel_values.specs.declared.state.WaitOn.TheVariants as wait_on
-use Rattle.kernel_types.specs.Names.{activity_names, wait_names}
+use Rattle.kernel_types.specs.Names.{activity_names}
 use Rattle.kernel_types.specs.Threads.{new_wait}
-use Rattle.counted_core.proofs.Waits.{same_item, set_same_waits}
+use Rattle.counted_core.proofs.Waits.{set_same_waits}
 use Rattle.counted_core.proofs.counts.CountedCore.await_any.Goals as goal
 
 pub invariant_of-self-in_default-activity : goal.invariant_of-self-in_default-activity

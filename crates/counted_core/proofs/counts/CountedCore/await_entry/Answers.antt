@@ -1,11 +1,11 @@
-use Rattle.std.proofs.Common.{◌≡◌, [], ◌∷◌, true, Some, refl, sym, ◌∙◌, ap}
+use Rattle.std.proofs.Common.{◌≡◌, [], true, Some, refl, sym, ◌∙◌, ap}
 use Rattle.std.specs.Prelude.{slice_get}
 use Rattle.std.specs.Option.{option_copied_mut, option_map}
 use Rattle.handle_table.specs.Places.{slot_entry}
 use Rattle.kernel_values.specs.declared.state.Activity.TheVariants as activity
 use Rattle.kernel_values.specs.declared.state.Thread.{Thread}
 use Rattle.kernel_values.specs.declared.state.WaitOn.TheVariants as wait_on
-use Rattle.kernel_types.specs.Names.{activity_names, root, wait_names}
+use Rattle.kernel_types.specs.Names.{activity_names, wait_names}
 use Rattle.kernel_types.specs.Objects.{is_there}
 use Rattle.kernel_types.specs.Tables.{entry_at, table_in}
 use Rattle.kernel_types.specs.Threads.{new_wait}

@@ -1,4 +1,4 @@
-use Rattle.std.proofs.Common.{◌≡◌, refl, sym, ◌∙◌, ap}
+use Rattle.std.proofs.Common.{refl}
 use Rattle.kernel_types.specs.Sets.{remasked}
 use Rattle.kernel_types.specs.Objects.{on_set}
 use Rattle.object_store.specs.Stock.{changed}

@@ -1,4 +1,4 @@
-use Rattle.std.proofs.Common.{◌≡◌, refl, ap, ◌∙◌}
+use Rattle.std.proofs.Common.{refl}
 use Rattle.kernel_types.specs.Objects.{on_port}
 use Rattle.object_store.specs.Stock.{changed, unnamed}
 use Rattle.counted_core.specs.Accepting.{listing}

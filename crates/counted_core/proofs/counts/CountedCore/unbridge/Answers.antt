@@ -1,4 +1,4 @@
-use Rattle.std.proofs.Common.{◌≡◌, refl, ap, ◌∙◌}
+use Rattle.std.proofs.Common.{refl, ap, ◌∙◌}
 use Rattle.std.specs.List.{flat_map, fold}
 use Rattle.object_store.specs.Stock.{unnamed}
 use Rattle.counted_core.specs.Bridged.{bridged_entry}

@@ -1,4 +1,4 @@
-use Rattle.std.proofs.Common.{◌≡◌, ◌+◌, ◌≤◌, length, arith, tests, refl, sym, ◌∙◌, ap}
+use Rattle.std.proofs.Common.{◌+◌, ◌≤◌, length, arith, tests, refl}
 use Rattle.kernel_types.specs.Memories.{written}
 use Rattle.kernel_types.specs.Objects.{memory_of, on_memory}
 use Rattle.core_changes.specs.Looks.{bytes_in}
