@@ -2,7 +2,7 @@
 
 ghost use Rattle.std.specs.Prelude.{◌≡◌, true, drop, take, IfOk, option_copied};
 ghost use Rattle.std.specs.List.{find};
-ghost use Rattle.std.specs.Option.{is_some, option_map};
+ghost use Rattle.std.specs.Option.{option_map};
 ghost use Rattle.core_changes.specs.Changes.{is_within};
 ghost use Rattle.core_changes.specs.Looks.{bytes_in, look_of_end, look_of_memory, look_of_message, look_of_port, message_bytes, messages_in};
 ghost use Rattle.counted_core.specs.Found.{end_if, memory_if, port_if, set_if};

@@ -6,7 +6,7 @@ ghost use Rattle.std.specs.Option.{is_some, option_map};
 ghost use Rattle.core_changes.specs.Looks.{look_of_way};
 ghost use Rattle.counted_core.specs.Paths.{has_path_at, id_of};
 ghost use Rattle.kernel_types.specs.Applications.{has_start_port};
-ghost use Rattle.kernel_types.specs.Connects.{app_place, client_of, peer_of, peer_uuid, uuid_of, way_by_app, way_of};
+ghost use Rattle.kernel_types.specs.Connects.{app_place, peer_of, peer_uuid, uuid_of, way_by_app, way_of};
 ghost use Rattle.kernel_types.specs.Objects.{end_of, object_of, published};
 
 use crate::apps::AppState;
