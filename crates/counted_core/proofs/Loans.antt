@@ -32,7 +32,7 @@ pub lent_none : (f : Body → Body) (items : List (Held Body)) (serial n : ℕ) 
 lent_none f items serial n arg is same value =
     sym (ap (λ o. changed_if f o items) is ∙ (ap (λ m. changed items m (on_value f)) (sym same) ∙ unchanged items serial (on_value f) (absent_is items serial value)))
 
-above_absent : (low next : ℕ) (items : List (Held Body)) (o : ℕ) → IsSoundFrom low items next → next ≤ o → is_there (objects_of items) o ≡ false
+pub above_absent : (low next : ℕ) (items : List (Held Body)) (o : ℕ) → IsSoundFrom low items next → next ≤ o → is_there (objects_of items) o ≡ false
 above_absent low next [] o sound le = refl
 above_absent low next (h ∷ rest) o sound le =
     let below : h.serial < next = sound.1 in

@@ -4,15 +4,16 @@ use Rattle.std.specs.List.{cons_option, flat_map, fold}
 use Rattle.std.specs.Option.{option_map_or}
 use Rattle.std.proofs.lemmas.List.Sums.{sum_by-cons}
 use Rattle.kernel_values.specs.declared.state.Body.{Body}
+use Rattle.kernel_values.specs.declared.state.CoreState.{CoreState}
 use Rattle.kernel_values.specs.declared.state.Thread.{Thread}
 use Rattle.kernel_types.specs.Names.{named_in, wait_names}
 use Rattle.kernel_types.specs.Objects.{on_end, on_port}
 use Rattle.count_laws.specs.Dropping.{cut_from, unlisted}
 use Rattle.object_store.specs.Stock.{Held, IsSoundFrom, changed, held_at, last_at, names_at, one_fewer, one_less, total_names, unnamed}
-use Rattle.counted_core.specs.Held.{changed_if, listed_by, on_value, peer_in}
+use Rattle.counted_core.specs.Held.{changed_if, listed_by, objects_of, on_value, peer_in}
 use Rattle.counted_core.specs.Sending.{named_more}
 use Rattle.counted_core.specs.Sweeping.{HasDropped, HasDroppedTo}
-use Rattle.counted_core.specs.Waiting.{IsWaitable}
+use Rattle.counted_core.specs.Waiting.{IsExact, IsWaitable}
 use Rattle.counted_core.proofs.Naming.{More, changed_total, name_one}
 use Rattle.counted_core.proofs.Sweeps.{dead_value}
 
@@ -81,6 +82,11 @@ more_total (part ∷ parts) next items sound =
     omega (arith, first, rest)
 
 -- Room for waits.
+
+-- a state whose objects stay, with its counts
+pub record Recounted (c : CoreState) (items out : List (Held Body)) : Type 0 where
+  pub same : objects_of out ≡ objects_of items
+  pub exact : IsExact c out
 
 pub still_waitable : (threads : List Thread) (items out : List (Held Body)) → total_names out ≤ total_names items → IsWaitable threads items → IsWaitable threads out
 still_waitable threads items out less room =

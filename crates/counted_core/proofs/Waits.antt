@@ -26,12 +26,7 @@ use Rattle.counted_core.proofs.Naming.{AllNamed, IsLacking, More, name_one, name
 use Rattle.counted_core.proofs.Owing.{Settled, settles}
 use Rattle.counted_core.proofs.Roots.{rooted_split}
 use Rattle.counted_core.proofs.Sweeps.{both_names, first_name}
-use Rattle.counted_core.proofs.Totals.{less_total_one}
-
--- a state whose objects stay, with its counts
-pub record Recounted (c : CoreState) (items out : List (Held Body)) : Type 0 where
-  pub same : objects_of out ≡ objects_of items
-  pub exact : IsExact c out
+use Rattle.counted_core.proofs.Totals.{Recounted, less_total_one}
 
 -- what a change of one item makes of a measure of what all of them name
 pub part_names : {X : Type 0} (f : X → List Name) (m : List Name → ℕ) → ((one other : List Name) → m (one ++ other) ≡ m one + m other) → (xs : List X) (at : ℕ) (a b : X) (x y : ℕ)

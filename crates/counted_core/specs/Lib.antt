@@ -10,3 +10,4 @@ pub mod Sending
 pub mod Sweeping
 pub mod Waiting
 pub mod Walking
+pub mod Installing

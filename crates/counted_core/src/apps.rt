@@ -1,10 +1,10 @@
 //! Applications, with handle tables that keep keys.
 
-ghost use Rattle.std.specs.Prelude.{◌≡◌, ◌<◌, length, IfOk, OnErr, OnOk, Some};
+ghost use Rattle.std.specs.Prelude.{◌≡◌, ◌+◌, ◌<◌, false, length, IfOk, OnErr, OnOk, Some};
 ghost use Rattle.std.specs.Option.{option_map};
 ghost use Rattle.handle_table.specs.Places.{slot_entry};
 ghost use Rattle.handle_table.specs.Tables.{IsTableFrom};
-ghost use Rattle.kernel_types.specs.Tables.{entry_at, free_handle, installed, with_cookie, without};
+ghost use Rattle.kernel_types.specs.Tables.{entry_at, free_handle, installed, is_full, with_cookie, without};
 
 use handle_table::{Full, Slot, Table};
 use kernel_values::{Manifest, StartPort};
@@ -54,6 +54,26 @@ impl AppState {
         ensures same { OnErr result (self.new ≡ self.old) }
     {
         self.table.install(key)
+    }
+
+    /// Gives the object the least free number, where one is left.
+    #[tactic(auto, unfolding(kernel_types::specs::Tables::is_full))]
+    pub fn give(&mut self, key: ObjKey) -> u32
+        requires { is_full self.old.table ≡ false }
+        ensures handle { result ≡ free_handle self.old.table }
+        ensures entry { self.new ≡ record self.old { table = installed self.old.table key.serial } }
+    {
+        match self.table.install(key) {
+            Ok(handle) => handle,
+            Err(Full) => 0,
+        }
+    }
+
+    /// How many numbers are free.
+    pub fn free(&self) -> u32
+        ensures { result + length self.now.table ≡ 64 }
+    {
+        self.table.free()
     }
 
     /// Keeps another cookie with the number, where it is in use.
