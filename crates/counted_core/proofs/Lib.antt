@@ -19,3 +19,5 @@ pub mod Entries
 pub mod Publishing
 pub mod Handing
 pub mod Pending
+pub mod Carried
+pub mod Looking

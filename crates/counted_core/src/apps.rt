@@ -1,11 +1,13 @@
 //! Applications, with handle tables that keep keys.
 
-ghost use Rattle.std.specs.Prelude.{◌≡◌, ◌+◌, ◌<◌, false, length, IfOk, OnErr, OnOk, Some};
+ghost use Rattle.std.specs.Prelude.{◌≡◌, ◌+◌, ◌++◌, ◌<◌, ◌≤◌, false, length, vec_capacity, IfOk, OnErr, OnOk, Some};
 ghost use Rattle.std.specs.Option.{option_map};
 ghost use Rattle.handle_table.specs.Places.{slot_entry};
 ghost use Rattle.handle_table.specs.Tables.{IsTableFrom};
+ghost use Rattle.kernel_types.specs.Messages.{all_handles, all_installed};
 ghost use Rattle.kernel_types.specs.Tables.{entry_at, free_handle, installed, is_full, with_cookie, without};
 
+use crate::sweep::key_of;
 use handle_table::{Full, Slot, Table};
 use kernel_values::{Manifest, StartPort};
 use object_store::ObjKey;
@@ -66,6 +68,24 @@ impl AppState {
         match self.table.install(key) {
             Ok(handle) => handle,
             Err(Full) => 0,
+        }
+    }
+
+    /// Gives each object the least free number that is left. The numbers go last in the list, which has room for them.
+    #[tactic(auto, unfolding(kernel_types::specs::Tables::is_full))]
+    pub fn give_all(&mut self, objects: &[u64], handles: &mut Vec<u32>)
+        requires room { length self.old.table + length objects.now ≤ 64 }
+        requires list { length handles.old.items + length objects.now ≤ vec_capacity handles.old }
+        ensures table { self.new ≡ record self.old { table = all_installed self.old.table objects.now } }
+        ensures handles { handles.new.items ≡ handles.old.items ++ all_handles self.old.table objects.now }
+    {
+        match objects {
+            [] => {}
+            [object, rest @ ..] => {
+                let handle = self.give(key_of(*object));
+                handles.push_reserved(handle);
+                self.give_all(rest, handles);
+            }
         }
     }
 

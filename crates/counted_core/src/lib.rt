@@ -6,6 +6,7 @@ pub mod apps;
 pub mod bridging;
 pub mod counts;
 pub mod ends;
+pub mod events;
 pub mod looks;
 pub mod makes;
 pub mod members;

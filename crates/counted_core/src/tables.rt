@@ -1,17 +1,21 @@
 //! What numbers of tables stand for, and new numbers for objects.
 
-ghost use Rattle.std.specs.Prelude.{◌≡◌, ◌+◌, ◌-◌, ◌<◌, ◌^◌, false, length, slice_get, true, IfOk, OnErr, OnOk};
+ghost use Rattle.std.specs.Prelude.{◌≡◌, ◌+◌, ◌-◌, ◌<◌, ◌^◌, false, length, min, slice_get, take, true, IfOk, OnErr, OnOk};
+ghost use Rattle.std.specs.List.{find};
+ghost use Rattle.core_changes.specs.Looks.{message_parts, messages_in};
 ghost use Rattle.counted_core.specs.Installing.{named_by};
-ghost use Rattle.kernel_types.specs.Messages.{entry_object, is_in_table};
-ghost use Rattle.kernel_types.specs.Objects.{map_at};
-ghost use Rattle.kernel_types.specs.Tables.{entry_at, free_handle, has_room, install, installed, is_full, table_changed, table_in, table_of};
+ghost use Rattle.kernel_types.specs.Messages.{all_handles, all_installed, entry_object, is_in_table, is_opened_as};
+ghost use Rattle.kernel_types.specs.Objects.{end_of, map_at};
+ghost use Rattle.kernel_types.specs.Tables.{entry_at, free_handle, has_room, install, installed, is_full, table_changed, table_in, table_of, with_table};
 ghost use Rattle.object_store.specs.Stock.{total_names};
 
 use crate::apps::AppState;
 use crate::counts::CountedCore;
+use crate::pushes::name_all;
 use crate::room::reserve_names;
-use kernel_values::{Body, Items, NoMemory, TableEntry};
+use kernel_values::{Body, Handles, Items, NoMemory, TableEntry};
 use object_store::{ObjKey, Store};
+use plain_objects::queues::find_opened;
 
 /// How many numbers of the application's table are free; a table that is not there is empty.
 fn free_in(apps: &Items<AppState>, app: u32) -> u32
@@ -86,5 +90,46 @@ impl CountedCore {
         reserve_names(&self.store, &self.threads, 1)?;
         self.store.sound();
         Ok(install(&mut self.apps, &mut self.store, app, slot.key))
+    }
+
+    /// The first objects of a message that is opened under this id.
+    fn first_parts(&self, id: u64, number: u32, count: usize) -> Result<Items<u64>, NoMemory>
+        ensures { IfOk result (λ parts. parts ≡ take count (message_parts (find (is_opened_as number) (messages_in (end_of self.now.objects id))))) }
+    {
+        let alloc = self.allocator();
+        let Some(end) = self.find_end(id) else {
+            return Ok(Items::new(alloc));
+        };
+        let Some(message) = find_opened(end.messages.as_slice(), number) else {
+            return Ok(Items::new(alloc));
+        };
+        let parts = message.parts.as_slice();
+        let count = count.min(parts.len());
+        Items::from_slice(alloc, &parts[..count])
+    }
+
+    /// The first objects of a message that is opened under this id get numbers of the table, which are the answer.
+    pub fn install_parts(
+        &mut self,
+        app: u32,
+        id: u64,
+        number: u32,
+        count: u32,
+    ) -> Result<Handles, NoMemory>
+        requires room { has_room (min count (length (message_parts (find (is_opened_as number) (messages_in (end_of self.old.objects id)))))) (table_of self.old app) ≡ true }
+        ensures ok { IfOk result (λ handles. handles ≡ all_handles (table_of self.old app) (take count (message_parts (find (is_opened_as number) (messages_in (end_of self.old.objects id)))))) }
+        ensures installed { OnOk result (self.new ≡ with_table (λ table. all_installed table (take count (message_parts (find (is_opened_as number) (messages_in (end_of self.old.objects id)))))) app self.old) }
+        ensures err { OnErr result (self.new ≡ self.old) }
+    {
+        let parts = self.first_parts(id, number, count as usize)?;
+        reserve_names(&self.store, &self.threads, parts.len())?;
+        let mut handles = Vec::with_capacity(self.allocator(), parts.len())?;
+        self.store.sound();
+        let Some(state) = self.apps.get_mut(app as usize) else {
+            return Err(NoMemory);
+        };
+        state.give_all(parts.as_slice(), &mut handles);
+        name_all(&mut self.store, parts.as_slice());
+        Ok(Items::from_vec(handles))
     }
 }
