@@ -1,22 +1,21 @@
 -- How new objects and new numbers of tables change the counts.
-use Rattle.std.proofs.Common.{◌≡◌, ℕ, zero, suc, ◌+◌, ◌<◌, ◌≤◌, ◌^◌, Bool, true, false, cond, ◌&&◌, ◌||◌, ◌==◌, List, [], ◌∷◌, ◌++◌, take, drop, length, map, Option, Some, None, refl, sym, ◌∙◌, ap, subst, arith, tests}
+use Rattle.std.proofs.Common.{◌≡◌, ℕ, zero, suc, ◌+◌, ◌<◌, ◌≤◌, ◌^◌, Bool, true, false, cond, ◌||◌, ◌==◌, List, [], ◌∷◌, ◌++◌, take, drop, length, map, Option, Some, None, refl, sym, ◌∙◌, ap, subst, arith, tests}
 use Rattle.std.proofs.lemmas.List.Sums.{sum_by-append, sum_by-cons}
 use Rattle.std.specs.Prelude.{slice_get, slice_set}
-use Rattle.std.specs.List.{flat_map, fold, position_or_len}
+use Rattle.std.specs.List.{flat_map, fold}
 use Rattle.std.specs.Option.{option_map, option_map_or}
 use Rattle.kernel_values.specs.declared.state.Application.{Application}
 use Rattle.kernel_values.specs.declared.state.Body.{Body}
 use Rattle.kernel_values.specs.declared.state.CoreState.{CoreState}
-use Rattle.kernel_values.specs.declared.state.Object.{Object}
 use Rattle.kernel_values.specs.declared.state.TableEntry.{TableEntry}
 use Rattle.kernel_values.specs.declared.state.Thread.{Thread}
 use Rattle.kernel_types.specs.Messages.{all_installed}
-use Rattle.kernel_types.specs.Names.{Name, named_in, names_of, root, table_names, wait_names}
+use Rattle.kernel_types.specs.Names.{Name, named_in, names_of, root, table_names}
 use Rattle.kernel_types.specs.Objects.{is_there, map_at, set_if}
 use Rattle.kernel_types.specs.Reach.{is_in}
 use Rattle.kernel_types.specs.Tables.{installed, table_changed}
 use Rattle.object_store.specs.Stock.{Held, IsSoundFrom, held_at, names_at, new_held, total_names}
-use Rattle.counted_core.specs.Held.{IsOwed, object_of_held, objects_of, tally, times}
+use Rattle.counted_core.specs.Held.{object_of_held, objects_of, tally, times}
 use Rattle.counted_core.specs.Installing.{named_by}
 use Rattle.counted_core.specs.Sending.{named_more}
 use Rattle.counted_core.specs.Sweeping.{IsCounted, core_of, rooted}

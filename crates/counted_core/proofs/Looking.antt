@@ -1,5 +1,5 @@
 -- What is looked up in a store is what is looked up among its objects.
-use Rattle.std.proofs.Common.{◌≡◌, ℕ, zero, suc, ◌+◌, ◌-◌, ◌<◌, List, Option, Some, None, refl, sym, ◌∙◌, ap, arith}
+use Rattle.std.proofs.Common.{◌≡◌, ℕ, zero, suc, ◌-◌, ◌<◌, List, Option, Some, None, refl, sym, ◌∙◌, ap, arith}
 use Rattle.std.specs.Option.{option_map}
 use Rattle.kernel_values.specs.declared.state.Body.{Body}
 use Rattle.kernel_types.specs.Events.{body_events, events_within, object_events}

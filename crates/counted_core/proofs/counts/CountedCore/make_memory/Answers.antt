@@ -1,4 +1,4 @@
-use Rattle.std.proofs.Common.{[], refl}
+use Rattle.std.proofs.Common.{refl}
 use Rattle.kernel_values.specs.declared.state.Body.TheVariants as body
 use Rattle.counted_core.proofs.Installs.{makes}
 use Rattle.counted_core.proofs.counts.CountedCore.make_memory.Goals as goal
