@@ -1,6 +1,6 @@
 -- What the code does to drop a dead object is what the model's `dropped` is, and keeps counts exact.
-use Rattle.std.proofs.Common.{◌≡◌, ℕ, zero, suc, ◌+◌, ◌-◌, ◌<◌, ◌≤◌, Bool, true, false, cond, ◌&&◌, ◌||◌, ◌==◌, inl, inr, List, [], ◌∷◌, ◌++◌, map, not, Option, Some, None, refl, sym, ◌∙◌, ap, subst, arith, tests}
-use Rattle.std.specs.List.{count_by, filter, find, fold}
+use Rattle.std.proofs.Common.{◌≡◌, ℕ, ◌+◌, ◌≤◌, Bool, true, false, cond, ◌&&◌, ◌||◌, ◌==◌, inl, inr, List, [], ◌∷◌, ◌++◌, map, not, Option, Some, None, refl, sym, ◌∙◌, ap, subst, arith, tests}
+use Rattle.std.specs.List.{filter}
 use Rattle.std.specs.Option.{option_map, option_map_or, option_and_then}
 use Rattle.std.proofs.lemmas.List.Sums.{sum_by-cons}
 use Rattle.kernel_values.specs.declared.state.Body.{Body}
@@ -17,7 +17,7 @@ use Rattle.kernel_types.specs.Names.{named_in}
 use Rattle.kernel_types.specs.Objects.{as_end, end_in, end_of, is_there, on_body, on_end, on_port}
 use Rattle.kernel_types.specs.Reach.{is_in}
 use Rattle.kernel_types.specs.Sweep.{is_live}
-use Rattle.object_store.specs.Stock.{Held, IsSoundFrom, changed, has_serial, held_at, last_at, last_named, names_at, on_serial, unnamed, value_at, with_value}
+use Rattle.object_store.specs.Stock.{Held, IsSoundFrom, changed, held_at, last_at, last_named, names_at, unnamed, value_at, with_value}
 use Rattle.count_laws.specs.Dropping.{all_cut, all_unlisted, cut_from, dropped, is_other, others, unlisted}
 use Rattle.count_laws.specs.Thinning.{Fit, In, IsPending}
 use Rattle.count_laws.proofs.Holding.{in_there, of_filter, of_map}
@@ -198,7 +198,7 @@ value_in (h ∷ rest) at v is =
 times_first : (x : ℕ) (xs : List ℕ) (o : ℕ) → times (x ∷ xs) o ≡ cond (x == o) 1 0 + times xs o
 times_first x xs o = sum_by-cons (λ y. cond (y == o) 1 0) x xs
 
-times_in : (xs : List ℕ) (o : ℕ) → is_in xs o ≡ true → 1 ≤ times xs o
+pub times_in : (xs : List ℕ) (o : ℕ) → is_in xs o ≡ true → 1 ≤ times xs o
 times_in [] o is = absurd (cc)
 times_in (x ∷ xs) o is =
     let P : Bool → Type 0 = λ b. (b || is_in xs o) ≡ true → 1 ≤ cond b 1 0 + times xs o in

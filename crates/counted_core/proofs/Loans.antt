@@ -1,12 +1,11 @@
 -- What a loan of a value leaves, and what is absent past the last number.
-use Rattle.std.proofs.Common.{◌≡◌, ℕ, ◌+◌, ◌<◌, ◌≤◌, Bool, true, false, cond, ◌&&◌, ◌||◌, ◌==◌, ◌⊎◌, inl, inr, List, [], ◌∷◌, map, not, Option, Some, None, refl, sym, ◌∙◌, ap, subst, arith, tests}
+use Rattle.std.proofs.Common.{◌≡◌, ℕ, ◌+◌, ◌<◌, ◌≤◌, Bool, true, false, cond, ◌||◌, ◌==◌, ◌⊎◌, inl, inr, List, [], ◌∷◌, Option, Some, None, refl, sym, ◌∙◌, ap, arith, tests}
 use Rattle.std.specs.Prelude.{OnErr, OnOk, Result, Ok, Err}
-use Rattle.std.specs.Option.{option_map, option_map_or}
+use Rattle.std.specs.Option.{option_map}
 use Rattle.kernel_values.specs.declared.state.Body.{Body}
 use Rattle.kernel_types.specs.Objects.{is_there}
-use Rattle.object_store.specs.Stock.{Held, IsSoundFrom, changed, held_at, names_at, value_at, with_value}
+use Rattle.object_store.specs.Stock.{Held, IsSoundFrom, changed, held_at, value_at, with_value}
 use Rattle.counted_core.specs.Held.{changed_if, lists, lists_at, objects_of, on_value}
-use Rattle.counted_core.proofs.Owing.{absent_names}
 use Rattle.counted_core.proofs.Drops.{changed_value, unchanged}
 
 absent_is : (items : List (Held Body)) (o : ℕ) → value_at items o ≡ None → is_there (objects_of items) o ≡ false
@@ -16,7 +15,7 @@ absent_is (h ∷ rest) o is =
     let go : (b : Bool) → P b = λ b. elim b as (λ v. P v) [ true ↦ (λ e. absurd (cc)) | false ↦ (λ e. absent_is rest o e) ] in
     go (h.serial == o) is
 
-absent_value : (items : List (Held Body)) (o : ℕ) → is_there (objects_of items) o ≡ false → value_at items o ≡ None
+pub absent_value : (items : List (Held Body)) (o : ℕ) → is_there (objects_of items) o ≡ false → value_at items o ≡ None
 absent_value [] o is = refl
 absent_value (h ∷ rest) o is =
     let P : Bool → Type 0 = λ b. (b || is_there (objects_of rest) o) ≡ false → option_map (λ (k : Held Body). k.value) (cond b (Some h) (held_at rest o)) ≡ None in
@@ -33,7 +32,7 @@ pub lent_none : (f : Body → Body) (items : List (Held Body)) (serial n : ℕ) 
 lent_none f items serial n arg is same value =
     sym (ap (λ o. changed_if f o items) is ∙ (ap (λ m. changed items m (on_value f)) (sym same) ∙ unchanged items serial (on_value f) (absent_is items serial value)))
 
-above_absent : (low next : ℕ) (items : List (Held Body)) (o : ℕ) → IsSoundFrom low items next → next ≤ o → is_there (objects_of items) o ≡ false
+pub above_absent : (low next : ℕ) (items : List (Held Body)) (o : ℕ) → IsSoundFrom low items next → next ≤ o → is_there (objects_of items) o ≡ false
 above_absent low next [] o sound le = refl
 above_absent low next (h ∷ rest) o sound le =
     let below : h.serial < next = sound.1 in

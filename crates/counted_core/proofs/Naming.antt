@@ -1,24 +1,24 @@
 -- Names that are added, and values changed in their places.
-use Rattle.std.proofs.Common.{◌≡◌, ℕ, zero, suc, ◌+◌, ◌<◌, ◌≤◌, Bool, true, false, cond, ◌&&◌, ◌||◌, ◌==◌, List, [], ◌∷◌, ◌++◌, length, map, not, Option, Some, None, refl, sym, ◌∙◌, ap, subst, arith, tests}
-use Rattle.std.specs.List.{count_by, filter, find, flat_map, fold}
+use Rattle.std.proofs.Common.{◌≡◌, ℕ, ◌+◌, ◌≤◌, Bool, true, false, cond, ◌||◌, ◌==◌, List, [], ◌∷◌, ◌++◌, Option, Some, None, refl, sym, ◌∙◌, ap, subst, arith, tests}
+use Rattle.std.specs.List.{fold}
 use Rattle.std.specs.Option.{option_map, option_map_or}
 use Rattle.std.proofs.lemmas.List.Sums.{sum_by-append, sum_by-cons}
 use Rattle.kernel_values.specs.declared.state.Body.{Body}
 use Rattle.kernel_values.specs.declared.state.Body.TheVariants as body
-use Rattle.kernel_values.specs.declared.state.ChannelEnd.{ChannelEnd}
 use Rattle.kernel_values.specs.declared.state.CoreState.{CoreState}
 use Rattle.kernel_values.specs.declared.state.Message.{Message}
 use Rattle.kernel_values.specs.declared.state.Object.{Object}
-use Rattle.kernel_laws.proofs.Found.{changed_cons, found, found_is}
+use Rattle.kernel_laws.proofs.Found.{changed_cons, found_is}
 use Rattle.std.specs.Prelude.{IsSome}
 use Rattle.counted_core.specs.Sweeping.{IsCounted, rooted}
 use Rattle.kernel_types.specs.Messages.{new_message, with_message}
 use Rattle.kernel_types.specs.Names.{message_objects, named_in}
-use Rattle.kernel_types.specs.Objects.{as_end, as_memory, changed as placed, end_in, memory_of, end_of, is_there, on_body, on_end}
+use Rattle.kernel_types.specs.Objects.{as_end, as_memory, as_port, as_set, changed as placed, memory_of, end_of, port_of, set_of, is_there, on_body, on_end}
 use Rattle.kernel_types.specs.Reach.{is_in}
-use Rattle.object_store.specs.Stock.{Held, IsSoundFrom, changed, held_at, names_at, on_serial, one_more, total_names, value_at}
+use Rattle.object_store.specs.Stock.{Held, IsSoundFrom, changed, held_at, names_at, one_more, total_names, value_at}
 use Rattle.counted_core.specs.Held.{IsOwed, object_of_held, objects_of, on_value, tally, times}
-use Rattle.counted_core.specs.Sending.{end_if, memory_if, named_more}
+use Rattle.counted_core.specs.Found.{end_if, memory_if, port_if, set_if}
+use Rattle.counted_core.specs.Sending.{named_more}
 use Rattle.counted_core.proofs.Owing.{absent_names, below_absent}
 use Rattle.counted_core.proofs.Drops.{changed_names, changed_sound, changed_there, held_found, unchanged}
 
@@ -89,6 +89,20 @@ memory_held (Some h) = refl
 
 pub memory_value : (items : List (Held Body)) (id : ℕ) → memory_of (objects_of items) id ≡ memory_if (value_at items id)
 memory_value items id = ap as_memory (found_is (objects_of items) id ∙ held_found items id) ∙ memory_held (held_at items id)
+
+port_held : (o : Option (Held Body)) → as_port (option_map object_of_held o) ≡ port_if (option_map (λ (h : Held Body). h.value) o)
+port_held None = refl
+port_held (Some h) = refl
+
+pub port_value : (items : List (Held Body)) (id : ℕ) → port_of (objects_of items) id ≡ port_if (value_at items id)
+port_value items id = ap as_port (found_is (objects_of items) id ∙ held_found items id) ∙ port_held (held_at items id)
+
+set_held : (o : Option (Held Body)) → as_set (option_map object_of_held o) ≡ set_if (option_map (λ (h : Held Body). h.value) o)
+set_held None = refl
+set_held (Some h) = refl
+
+pub set_value : (items : List (Held Body)) (id : ℕ) → set_of (objects_of items) id ≡ set_if (value_at items id)
+set_value items id = ap as_set (found_is (objects_of items) id ∙ held_found items id) ∙ set_held (held_at items id)
 
 -- One name more.
 

@@ -1,15 +1,15 @@
 -- Counts with debts: what a name less, an object less and a change do to them.
-use Rattle.std.proofs.Common.{◌≡◌, ℕ, zero, suc, ◌+◌, ◌-◌, ◌<◌, ◌≤◌, Bool, true, false, cond, ◌&&◌, ◌||◌, ◌==◌, List, [], ◌∷◌, ◌++◌, map, not, Option, Some, None, refl, sym, ◌∙◌, ap, subst, arith, tests}
-use Rattle.std.specs.List.{count_by, filter, filter_map, find, fold, cons_option}
-use Rattle.std.specs.Option.{option_map, option_map_or, option_and_then}
+use Rattle.std.proofs.Common.{◌≡◌, ℕ, ◌+◌, ◌-◌, ◌<◌, ◌≤◌, Bool, true, false, cond, ◌&&◌, ◌||◌, ◌==◌, List, [], ◌∷◌, not, Some, None, refl, sym, ◌∙◌, ap, subst, arith, tests}
+use Rattle.std.specs.List.{fold, cons_option}
+use Rattle.std.specs.Option.{option_map_or, option_and_then}
 use Rattle.std.proofs.lemmas.List.Sums.{sum_by-cons}
 use Rattle.kernel_values.specs.declared.state.Body.{Body}
 use Rattle.kernel_values.specs.declared.state.Object.{Object}
 use Rattle.kernel_types.specs.Names.{named_in}
-use Rattle.kernel_types.specs.Objects.{is_there, on_body}
-use Rattle.object_store.specs.Stock.{Held, IsSoundFrom, changed, has_serial, held_at, last_at, last_named, less_on, names_at, one_fewer, one_less, unnamed, value_at, with_value}
-use Rattle.count_laws.specs.Dropping.{is_other, others}
-use Rattle.counted_core.specs.Held.{IsOwed, object_of_held, objects_of, on_value, tally, times}
+use Rattle.kernel_types.specs.Objects.{is_there}
+use Rattle.object_store.specs.Stock.{Held, IsSoundFrom, held_at, last_at, last_named, names_at, one_fewer, one_less, unnamed}
+use Rattle.count_laws.specs.Dropping.{others}
+use Rattle.counted_core.specs.Held.{IsOwed, object_of_held, objects_of, tally, times}
 
 names_first : (h : Held Body) (rest : List (Held Body)) (o : ℕ) → names_at (h ∷ rest) o ≡ cond (h.serial == o) h.names (names_at rest o)
 names_first h rest o = elim (h.serial == o) as (λ b. option_map_or (λ (k : Held Body). k.names) (cond b (Some h) (held_at rest o)) 0 ≡ cond b h.names (names_at rest o)) [ true ↦ refl | false ↦ refl ]

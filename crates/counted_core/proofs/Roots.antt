@@ -1,8 +1,8 @@
 -- How changes of tables change what roots name.
-use Rattle.std.proofs.Common.{◌≡◌, ℕ, zero, suc, ◌+◌, ◌<◌, ◌≤◌, Bool, true, false, cond, ◌&&◌, ◌||◌, ◌==◌, List, [], ◌∷◌, ◌++◌, length, map, not, Option, Some, None, refl, sym, ◌∙◌, ap, subst, arith, tests}
+use Rattle.std.proofs.Common.{◌≡◌, ℕ, zero, suc, ◌+◌, ◌<◌, ◌≤◌, Bool, true, false, cond, ◌==◌, List, [], ◌∷◌, ◌++◌, map, not, Some, None, refl, sym, ◌∙◌, ap, subst, arith, tests}
 use Rattle.std.specs.Prelude.{slice_get, slice_set}
-use Rattle.std.specs.List.{count_by, filter, flat_map, fold}
-use Rattle.std.proofs.lemmas.List.Sums.{sum_by-append, sum_by-cons}
+use Rattle.std.specs.List.{filter, flat_map, fold}
+use Rattle.std.proofs.lemmas.List.Sums.{sum_by-cons}
 use Rattle.kernel_values.specs.declared.state.Application.{Application}
 use Rattle.kernel_values.specs.declared.state.Body.{Body}
 use Rattle.kernel_values.specs.declared.state.CoreState.{CoreState}
@@ -10,14 +10,14 @@ use Rattle.kernel_values.specs.declared.state.TableEntry.{TableEntry}
 use Rattle.kernel_values.specs.declared.state.Thread.{Thread}
 use Rattle.kernel_types.specs.Names.{Name, names_of, root, table_names, wait_names}
 use Rattle.kernel_types.specs.Objects.{is_there, map_at}
-use Rattle.kernel_types.specs.Tables.{entry_at, remove_entry, without}
+use Rattle.kernel_types.specs.Tables.{entry_at, table_in, without}
 use Rattle.kernel_laws.proofs.Mapped.{map_at_same}
 use Rattle.handle_table.specs.Tables.{IsTableFrom}
 use Rattle.object_store.specs.Stock.{Held, IsSoundFrom, names_at, unnamed}
 use Rattle.counted_core.specs.Held.{IsOwed, objects_of, tally, times}
-use Rattle.counted_core.specs.Sweeping.{IsCounted, core_of, removed, rooted, roots}
+use Rattle.counted_core.specs.Sweeping.{IsCounted, core_of, removed, rooted}
 use Rattle.counted_core.proofs.Owing.{Settled, settles}
-use Rattle.counted_core.proofs.Sweeps.{both_names, first_name}
+use Rattle.counted_core.proofs.Sweeps.{both_names, first_name, named_there, naming_tally}
 
 pub rooted_split : (c : CoreState) (o : ℕ) → rooted c o ≡ names_of (flat_map table_names c.apps) o + names_of (map root c.bridged) o + names_of (flat_map wait_names c.threads) o
 rooted_split c o =
@@ -111,6 +111,35 @@ same_roots apps threads items next clock bridged at a b is same counted =
 
 pub cookie_names : (table : List TableEntry) (at cookie : ℕ) → map (λ entry. root entry.object) (map_at (λ e. record e { cookie = cookie }) table at) ≡ map (λ entry. root entry.object) table
 cookie_names table at cookie = map_at_same (λ (entry : TableEntry). root entry.object) (λ e. record e { cookie = cookie }) (λ e. refl) table at
+
+-- What a table names is there.
+
+entry_named : (table : List TableEntry) (handle : ℕ) (found : TableEntry) → entry_at table handle ≡ Some found → 1 ≤ names_of (entry_names table) found.object
+entry_named [] handle found is = absurd (cc is)
+entry_named (entry ∷ table) handle found is =
+    let one : names_of (root entry.object ∷ entry_names table) found.object ≡ cond (entry.object == found.object) 1 0 + names_of (entry_names table) found.object = first_name found.object (root entry.object) (entry_names table) in
+    let P : Bool → Type 0 = λ b. cond b (Some entry) (entry_at table handle) ≡ Some found → 1 ≤ cond (entry.object == found.object) 1 0 + names_of (entry_names table) found.object in
+    let go : (b : Bool) → P b = λ b. elim b as (λ v. P v) [
+      | true ↦ (λ f.
+          let same : entry ≡ found = cc in
+          let here : (entry.object == entry.object) ≡ true = grind (arith, tests) in
+          let test : (entry.object == found.object) ≡ true = ap (λ (e : TableEntry). entry.object == e.object) (sym same) ∙ here in
+          subst (λ (t : Bool). 1 ≤ cond t 1 0 + names_of (entry_names table) found.object) (sym test) (omega arith))
+      | false ↦ (λ f. omega (arith, entry_named table handle found f))
+    ] in
+    let least : 1 ≤ cond (entry.object == found.object) 1 0 + names_of (entry_names table) found.object = go (entry.handle == handle) is in
+    omega (arith, one, least)
+
+app_named : (apps : List Application) (at handle : ℕ) (found : TableEntry) → entry_at (table_in (slice_get apps at)) handle ≡ Some found → 1 ≤ names_of (flat_map table_names apps) found.object
+app_named [] at handle found is = absurd (cc is)
+app_named (app ∷ apps) zero handle found is = omega (arith, both_names found.object (table_names app) (flat_map table_names apps), entry_named app.table handle found is)
+app_named (app ∷ apps) (suc at) handle found is = omega (arith, both_names found.object (table_names app) (flat_map table_names apps), app_named apps at handle found is)
+
+pub held_there : (apps : List Application) (threads : List Thread) (items : List (Held Body)) (next clock : ℕ) (bridged : List ℕ) (at handle : ℕ) (found : TableEntry)
+    → IsCounted (core_of apps threads items next clock bridged) items → entry_at (table_in (slice_get apps at)) handle ≡ Some found → is_there (objects_of items) found.object ≡ true
+held_there apps threads items next clock bridged at handle found counted is =
+    let c : CoreState = core_of apps threads items next clock bridged in
+    named_there c items counted found.object (omega (arith, naming_tally c found.object, rooted_split c found.object, app_named apps at handle found is))
 
 -- the state after an entry went
 pub record Removed (apps : List Application) (threads : List Thread) (items out : List (Held Body)) (next clock : ℕ) (bridged : List ℕ) (at handle : ℕ) : Type 0 where

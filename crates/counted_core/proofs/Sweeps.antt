@@ -1,7 +1,7 @@
 -- The loop of a sweep.
-use Rattle.std.proofs.Common.{◌≡◌, ℕ, ◌+◌, ◌<◌, ◌≤◌, Bool, true, false, cond, ◌&&◌, ◌||◌, ◌==◌, ◌⊎◌, inl, inr, List, [], ◌∷◌, ◌++◌, length, map, not, Option, Some, None, refl, sym, ◌∙◌, ap, subst, arith, tests}
-use Rattle.std.specs.List.{count_by, filter_map, flat_map, fold, cons_option}
-use Rattle.std.specs.Option.{option_map, option_map_or, option_and_then}
+use Rattle.std.proofs.Common.{◌≡◌, ℕ, ◌+◌, ◌<◌, ◌≤◌, Bool, true, false, cond, ◌==◌, ◌⊎◌, inl, inr, List, [], ◌∷◌, ◌++◌, length, map, Option, Some, None, refl, sym, ◌∙◌, ap, subst, arith, tests}
+use Rattle.std.specs.List.{flat_map, fold, cons_option}
+use Rattle.std.specs.Option.{option_map_or, option_and_then}
 use Rattle.std.proofs.lemmas.List.Sums.{sum_by-append, sum_by-cons}
 use Rattle.kernel_values.specs.declared.state.Body.{Body}
 use Rattle.kernel_values.specs.declared.state.CoreState.{CoreState}
@@ -9,11 +9,11 @@ use Rattle.kernel_values.specs.declared.state.Object.{Object}
 use Rattle.kernel_types.specs.Names.{Name, held_by, named_in, names_of, naming, object_names}
 use Rattle.kernel_types.specs.Objects.{is_there, on_end, on_port}
 use Rattle.object_store.specs.Stock.{NoneDead, Held, IsSoundFrom, changed, held_at, last_at, last_named, less_on, names_at, one_fewer, one_less, unnamed}
-use Rattle.count_laws.specs.Dropping.{IsLeft, Ranked, cut_from, dropped, unlisted}
+use Rattle.count_laws.specs.Dropping.{IsLeft, cut_from, dropped, unlisted}
 use Rattle.count_laws.specs.Thinning.{Fit, NamedThere}
 use Rattle.count_laws.proofs.Dropping.{all_left, drops_on, ends_swept, left_fits, left_ranked}
 use Rattle.counted_core.specs.Held.{IsOwed, changed_if, dropped_items, listed_by, objects_of, on_value, peer_in, tally, times}
-use Rattle.counted_core.specs.Sweeping.{HasDropped, HasDroppedTo, IsCounted, IsSweeping, IsSwept, Swept, Sweeping, at, rooted, roots}
+use Rattle.counted_core.specs.Sweeping.{HasDropped, HasDroppedTo, IsCounted, IsSweeping, Swept, Sweeping, at, rooted, roots}
 use Rattle.counted_core.proofs.Owing.{absent_names}
 use Rattle.counted_core.proofs.Drops.{Dropped, drops}
 
@@ -65,11 +65,14 @@ module _ (k : CoreState) (items : List (Held Body)) (counted : IsCounted k items
 pub begins : (items : List (Held Body)) → Sweeping items items
 begins items k fit counted = record { left = all_left (at k items) fit; counted = counted }
 
-dead_value : (o : Option (Held Body)) → option_map_or (λ (h : Held Body). h.names) o 0 ≡ 1 → (b : Body) × (option_and_then last_named o ≡ Some b)
-dead_value None is = absurd (cc is)
-dead_value (Some h) is =
+last_dead : (o : Option (Held Body)) → option_map_or (λ (h : Held Body). h.names) o 0 ≡ 1 → (b : Body) × (option_and_then last_named o ≡ Some b)
+last_dead None is = absurd (cc is)
+last_dead (Some h) is =
     let one : (h.names == 1) ≡ true = grind (arith, tests) in
     (h.value, ap (λ (b : Bool). cond b (Some h.value) None) one)
+
+pub dead_value : (items : List (Held Body)) (x : ℕ) → names_at items x ≡ 1 → (b : Body) × (last_at items x ≡ Some b)
+dead_value items x one = last_dead (held_at items x) one
 
 -- each turn drops one
 pub goes_on : (old new left : List (Held Body)) (next x : ℕ) → Sweeping old new → IsSoundFrom 0 new next → names_at new x ≡ 1 → HasDropped x new left → Sweeping old left
@@ -77,7 +80,7 @@ goes_on old new left next x sweeping sound one has k fit counted =
     let s : IsSweeping k old new = sweeping k fit counted in
     let there : NamedThere (at k new) = named_there k new s.counted in
     let fits : Fit (at k new) = left_fits (at k old) (at k new) fit there s.left in
-    let v : (b : Body) × (last_at new x ≡ Some b) = dead_value (held_at new x) one in
+    let v : (b : Body) × (last_at new x ≡ Some b) = dead_value new x one in
     let d : HasDroppedTo x v.0 new left = has v.0 v.1 in
     let done : Dropped (rooted k) next x k new (dropped_items x d.port v.0 new) = drops (rooted k) k new next x v.0 d.port fits sound s.counted v.1 d.lister in
     let is : at k left ≡ dropped x (at k new) = ap (at k) d.items ∙ done.same in
@@ -133,7 +136,7 @@ last_fewer (h ∷ rest) x one =
 
 pub fewer : (new left : List (Held Body)) (x : ℕ) → names_at new x ≡ 1 → HasDropped x new left → length left + 1 ≤ length new
 fewer new left x one has =
-    let v : (b : Body) × (last_at new x ≡ Some b) = dead_value (held_at new x) one in
+    let v : (b : Body) × (last_at new x ≡ Some b) = dead_value new x one in
     let d : HasDroppedTo x v.0 new left = has v.0 v.1 in
     let one_gone : List (Held Body) = changed_if (on_port (unlisted (peer_in v.0))) d.port (unnamed new x) in
     let two : List (Held Body) = changed_if (on_end (cut_from x)) (peer_in v.0) one_gone in

@@ -1,4 +1,13 @@
+pub mod Accepting
+pub mod Bridged
 pub mod EndChanges
+pub mod Found
 pub mod Held
+pub mod Members
+pub mod Paths
+pub mod Retiring
 pub mod Sending
 pub mod Sweeping
+pub mod Waiting
+pub mod Walking
+pub mod Installing

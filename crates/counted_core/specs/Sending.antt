@@ -1,18 +1,12 @@
 -- Names that are added.
-use Rattle.std.specs.Prelude.{◌≡◌, ◌+◌, ◌==◌, ℕ, Bool, true, List, Option, Some, None, map, if◌then◌else◌, nat_lt, length}
-use Rattle.std.specs.List.{fold}
+use Rattle.std.specs.Prelude.{◌≡◌, ℕ, true, List}
 use Rattle.kernel_values.specs.declared.state.Body.{Body}
 use Rattle.kernel_values.specs.declared.state.CoreState.{CoreState}
-use Rattle.kernel_values.specs.declared.state.ChannelEnd.{ChannelEnd}
-use Rattle.kernel_values.specs.declared.state.MemoryRef.{MemoryRef}
-use Rattle.kernel_values.specs.declared.state.TableEntry.{TableEntry}
-use Rattle.kernel_values.specs.declared.errno.Errno.TheVariants as errno
-use Rattle.kernel_types.specs.Events.{is_disconnected}
-use Rattle.kernel_types.specs.Messages.{entry_object, is_unconnected, part_limit, send_parts}
-use Rattle.kernel_types.specs.Objects.{is_there, end_in, memory_in}
-use Rattle.kernel_types.specs.Outcome.{Outcome, refuses}
+use Rattle.core_changes.specs.Looks.{pending_in}
+use Rattle.kernel_types.specs.Objects.{is_there, port_of}
+use Rattle.kernel_types.specs.Messages.{entry_object, is_in_table}
 use Rattle.kernel_types.specs.Reach.{is_in}
-use Rattle.kernel_types.specs.Tables.{entry_at}
+use Rattle.kernel_types.specs.Tables.{entry_at, table_of}
 use Rattle.object_store.specs.Stock.{Held, changed, one_more}
 
 abbrev pub named_more : List (Held Body) → ℕ → List (Held Body)
@@ -22,10 +16,14 @@ named_more items part = changed items part one_more
 abbrev pub AllThere : List ℕ → CoreState → Type 0
 AllThere parts c = (o : ℕ) → is_in parts o ≡ true → is_there c.objects o ≡ true
 
-abbrev pub end_if : Option Body → Option ChannelEnd
-end_if None = None
-end_if (Some b) = end_in b
+-- the object that a number of an application's table names
+unfoldable pub held_object : CoreState → ℕ → ℕ → ℕ
+held_object c app handle = entry_object (entry_at (table_of c app) handle)
 
-abbrev pub memory_if : Option Body → Option MemoryRef
-memory_if None = None
-memory_if (Some b) = memory_in b
+-- what the numbers of tables name is there
+abbrev pub AllHeldThere : CoreState → Type 0
+AllHeldThere c = (app handle : ℕ) → is_in_table (table_of c app) handle ≡ true → is_there c.objects (entry_object (entry_at (table_of c app) handle)) ≡ true
+
+-- what ports list is there
+abbrev pub AllPendingThere : CoreState → Type 0
+AllPendingThere c = (port o : ℕ) → is_in (pending_in (port_of c.objects port)) o ≡ true → is_there c.objects o ≡ true

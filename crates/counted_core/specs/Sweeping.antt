@@ -1,5 +1,5 @@
 -- What a sweep by counts makes of a store.
-use Rattle.std.specs.Prelude.{◌≡◌, ◌≢◌, ◌+◌, ◌≤◌, ◌==◌, ℕ, List, [], ◌++◌, Option, Some, map, length}
+use Rattle.std.specs.Prelude.{◌≡◌, ◌==◌, ℕ, List, [], ◌++◌, Option, Some, map}
 use Rattle.std.specs.List.{filter, flat_map}
 use Rattle.kernel_values.specs.declared.state.Application.{Application}
 use Rattle.kernel_values.specs.declared.state.TableEntry.{TableEntry}
@@ -8,7 +8,7 @@ use Rattle.kernel_values.specs.declared.state.Body.{Body}
 use Rattle.kernel_values.specs.declared.state.CoreState.{CoreState}
 use Rattle.kernel_types.specs.Names.{Name, names_of, root, table_names, wait_names}
 use Rattle.kernel_types.specs.Sweep.{sweep}
-use Rattle.object_store.specs.Stock.{Held, IsSoundFrom, last_at, names_at, unnamed}
+use Rattle.object_store.specs.Stock.{Held, last_at, unnamed}
 use Rattle.count_laws.specs.Dropping.{IsLeft, Ranked}
 use Rattle.count_laws.specs.Thinning.{Fit}
 use Rattle.counted_core.specs.Held.{IsLister, IsOwed, dropped_items, objects_of, peer_in}

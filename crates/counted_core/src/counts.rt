@@ -1,66 +1,44 @@
 //! The core with its counts: at every moment it stands for one state of the model, in which each object's count is exact.
 
-ghost use Rattle.std.specs.Prelude.{◌≡◌, IsSome, OnOk, OnErr, Some, option_copied};
-ghost use Rattle.std.specs.Option.{is_some, option_map};
+ghost use Rattle.std.specs.Prelude.{◌≡◌, Some};
+ghost use Rattle.std.specs.Option.{option_map};
 ghost use Rattle.handle_table.specs.Places.{slot_entry};
 ghost use Rattle.kernel_types.specs.Sweep.{sweep};
 ghost use Rattle.kernel_types.specs.Reports.{with_last_reported};
 ghost use Rattle.kernel_types.specs.Tables.{entry_at, remove_entry, table_of, with_cookie, with_table};
-ghost use Rattle.object_store.specs.Stock.{value_at};
 ghost use Rattle.count_laws.specs.Dropping.{Ranked};
+ghost use Rattle.counted_core.specs.Sending.{AllHeldThere, AllPendingThere};
 ghost use Rattle.count_laws.specs.Thinning.{Fit};
-ghost use Rattle.counted_core.specs.Sending.{AllThere, end_if, memory_if};
-ghost use Rattle.kernel_types.specs.Messages.{with_message};
-ghost use Rattle.kernel_types.specs.Objects.{end_changed, end_of, memory_of};
-ghost use Rattle.counted_core.specs.EndChanges.{end_after};
 
 use crate::apps::AppState;
-use crate::ends::{EndChange, change_in};
-use crate::pushes::{name_all, push_message};
-use crate::sweep::{self, key_of};
+use crate::sweep;
 use handle_table::Slot;
-use kernel_values::{Body, Bytes, ChannelEnd, Items, NoMemory, Thread};
+use kernel_values::{Body, Items, Thread};
 use object_store::Store;
 use std::alloc::Global;
 use std::marker::Model;
 
-/// A state of the model. Each object's count is how often it is named, and one more for the store.
+/// A state of the model. Each object's count is how often it is named, and one more for the store. Whatever is named, the
+/// name of a wait of each thread can be counted besides, so that a wait begins without being refused.
 #[derive(Drop)]
 pub struct CountedCore {
-    apps: Items<AppState>,
-    threads: Items<Thread>,
-    store: Store<Body>,
-    clock: u64,
-    bridged: Items<u64>,
+    pub(crate) apps: Items<AppState>,
+    pub(crate) threads: Items<Thread>,
+    pub(crate) store: Store<Body>,
+    pub(crate) clock: u64,
+    pub(crate) bridged: Items<u64>,
 }
 
 impl Model for CountedCore {
     ghost use Rattle.kernel_values.specs.declared.state.CoreState.{CoreState};
-    ghost use Rattle.counted_core.specs.Sweeping.{core_of, IsCounted};
+    ghost use Rattle.counted_core.specs.Sweeping.{core_of};
+    ghost use Rattle.counted_core.specs.Waiting.{IsExact};
 
     ghost Value = { CoreState };
 
     ghost view = { λ k. core_of k.apps k.threads k.store.items k.store.next k.clock k.bridged };
 
-    ghost invariant = { λ k. IsCounted (core_of k.apps k.threads k.store.items k.store.next k.clock k.bridged) k.store.items };
-}
-
-fn end_at(store: &Store<Body>, id: u64) -> Option<&ChannelEnd>
-    ensures { option_copied result ≡ end_if (value_at store.now.items id) }
-{
-    match store.get(key_of(id)) {
-        Some(Body::End(end)) => Some(end),
-        _ => None,
-    }
-}
-
-fn is_memory_at(store: &Store<Body>, id: u64) -> bool
-    ensures { result ≡ is_some (memory_if (value_at store.now.items id)) }
-{
-    match store.get(key_of(id)) {
-        Some(Body::Memory(_)) => true,
-        _ => false,
-    }
+    ghost invariant = { λ k. IsExact (core_of k.apps k.threads k.store.items k.store.next k.clock k.bridged) k.store.items };
 }
 
 impl CountedCore {
@@ -78,26 +56,18 @@ impl CountedCore {
         self.apps.allocator()
     }
 
-    /// The channel end of this number, where the object is one.
-    pub fn find_end(&self, id: u64) -> Option<&ChannelEnd>
-        ensures { option_copied result ≡ end_of self.now.objects id }
+    /// What holds of every core: what the numbers of tables name is there. It does nothing.
+    pub fn sound(&self)
+        ensures { AllHeldThere self.now }
     {
-        end_at(&self.store, id)
+        let _ = &self.store;
     }
 
-    /// Whether the object of this number is a memory reference.
-    pub fn is_memory(&self, id: u64) -> bool
-        ensures { result ≡ is_some (memory_of self.now.objects id) }
+    /// What ports list is there. It does nothing.
+    pub fn sound_ports(&self)
+        ensures { AllPendingThere self.now }
     {
-        is_memory_at(&self.store, id)
-    }
-
-    /// One end is changed, where there is one of this number. Takes no memory.
-    pub fn change_end(&mut self, id: u64, change: EndChange)
-        ensures { self.new ≡ end_changed (end_after change) id self.old }
-    {
-        self.store.sound();
-        change_in(&mut self.store, id, change);
+        let _ = &self.store;
     }
 
     /// The number goes from the application's table. Takes no memory.
@@ -133,27 +103,6 @@ impl CountedCore {
             return;
         };
         state.set_last(handle);
-    }
-
-    /// The message comes to the end of this number, and its parts are named once more. Refused, all stands as before.
-    pub fn add_message(
-        &mut self,
-        id: u64,
-        bytes: &Bytes,
-        parts: &Items<u64>,
-    ) -> Result<(), NoMemory>
-        requires end { IsSome (end_of self.old.objects id) }
-        requires parts { AllThere parts.now self.old }
-        ensures ok { OnOk result (self.new ≡ end_changed (with_message bytes.now parts.now) id self.old) }
-        ensures err { OnErr result (self.new ≡ self.old) }
-    {
-        self.store.sound();
-        if u64::MAX - self.store.total() < parts.len() as u64 {
-            return Err(NoMemory);
-        }
-        push_message(&mut self.store, id, bytes, parts)?;
-        name_all(&mut self.store, parts.as_slice());
-        Ok(())
     }
 
     /// Ends what nothing reaches any more. Takes no memory.

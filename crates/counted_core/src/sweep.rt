@@ -7,7 +7,7 @@ ghost use Rattle.kernel_types.specs.Names.{named_in, message_objects};
 ghost use Rattle.kernel_types.specs.Objects.{on_end, on_port};
 ghost use Rattle.kernel_types.specs.Reach.{is_in};
 ghost use Rattle.kernel_types.specs.Sweep.{is_live};
-ghost use Rattle.object_store.specs.Stock.{unnamed, value_at};
+ghost use Rattle.object_store.specs.Stock.{total_names, unnamed, value_at};
 ghost use Rattle.count_laws.specs.Dropping.{cut_from, unlisted};
 ghost use Rattle.counted_core.specs.Held.{changed_if, lists_at, peer_in, listed_by, IsLister};
 ghost use Rattle.counted_core.specs.Sweeping.{HasDropped, Swept};
@@ -122,7 +122,7 @@ fn lister(store: &Store<Body>, server: u64) -> Option<u64>
     None
 }
 
-fn unname_all(store: &mut Store<Body>, serials: &[u64])
+pub fn unname_all(store: &mut Store<Body>, serials: &[u64])
     ensures items { store.new.items ≡ fold unnamed store.old.items serials.now }
     ensures next { store.new.next ≡ store.old.next }
 {
@@ -224,6 +224,7 @@ fn drop_dead(store: &mut Store<Body>, x: u64)
 /// Ends what nothing names any more.
 pub fn sweep(store: &mut Store<Body>)
     ensures items { Swept store.old.items store.new.items }
+    ensures total { total_names store.new.items ≤ total_names store.old.items }
     ensures next { store.new.next ≡ store.old.next }
 {
     let count = store.len();

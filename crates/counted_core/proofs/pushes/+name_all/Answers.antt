@@ -1,4 +1,4 @@
-use Rattle.std.proofs.Common.{rules, ◌≡◌, ◌≤◌, ◌+◌}
+use Rattle.std.proofs.Common.{rules, ◌≤◌, ◌+◌}
 use Rattle.object_store.specs.Stock.{total_names}
 use Rattle.counted_core.specs.Sending.{named_more}
 use Rattle.counted_core.proofs.Naming.{More, name_one}

@@ -1,9 +1,8 @@
-use Rattle.std.proofs.Common.{◌≡◌, refl, sym, ◌∙◌, ap, Some, subst}
+use Rattle.std.proofs.Common.{◌≡◌, refl, sym, ◌∙◌, ap, Some}
 use Rattle.std.specs.Option.{option_copied_mut}
 use Rattle.kernel_types.specs.Messages.{with_message}
 use Rattle.kernel_types.specs.Objects.{on_end}
-use Rattle.object_store.specs.Stock.{changed, value_at, with_value}
-use Rattle.counted_core.specs.Held.{changed_if}
+use Rattle.object_store.specs.Stock.{value_at}
 use Rattle.counted_core.proofs.Loans.{lent, lent_none, on_err, on_ok}
 use Rattle.counted_core.proofs.Naming.{changed_same}
 use Rattle.counted_core.proofs.pushes.push_message.Goals as goal

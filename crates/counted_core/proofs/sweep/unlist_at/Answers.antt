@@ -1,4 +1,4 @@
-use Rattle.std.proofs.Common.{refl, sym, ◌∙◌, ap, Some}
+use Rattle.std.proofs.Common.{sym, ◌∙◌, ap, Some}
 use Rattle.std.specs.Option.{option_copied_mut}
 use Rattle.kernel_types.specs.Objects.{on_port}
 use Rattle.count_laws.specs.Dropping.{unlisted}

@@ -1,4 +1,4 @@
-use Rattle.std.proofs.Common.{refl, sym, ◌∙◌}
+use Rattle.std.proofs.Common.{sym, ◌∙◌}
 use Rattle.counted_core.proofs.Naming.{end_value}
 use Rattle.counted_core.proofs.counts.CountedCore.find_end.Goals as goal
 

@@ -1,0 +1,7 @@
+use Rattle.std.specs.List.{list_any}
+use Rattle.kernel_types.specs.Applications.{is_start_port}
+use Rattle.std.proofs.Common.{drop, ◌≡◌}
+use Rattle.counted_core.proofs.apps.AppState.has_start_port.Given as goal
+
+abbrev pub invariant-loop-port : goal.invariant-loop-port
+invariant-loop-port l = list_any (is_start_port l.path) (drop l.port-index l.port-items) ≡ list_any (is_start_port l.path) l.port-items
