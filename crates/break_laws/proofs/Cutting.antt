@@ -34,35 +34,25 @@ use Rattle.break_laws.proofs.Surviving.{is_pending_by}
 
 -- Kinds: an object is of one.
 
-no_port : (o : Option Object) (end : ChannelEnd) (port : Port) → as_end o ≡ Some end → as_port o ≡ Some port → ⊥
-no_port None end port is is_too = absurd (cc)
-no_port (Some x) end port is is_too =
-    elim x.body as (λ b. end_in b ≡ Some end → port_in b ≡ Some port → ⊥) [
+no_kind : {A : Type 0} (kind : Option Object → Option A) → ((id : ℕ) (end : ChannelEnd) → kind (Some (record { id = id; body = body.End end })) ≡ None)
+    → (o : Option Object) (end : ChannelEnd) (a : A) → as_end o ≡ Some end → kind o ≡ Some a → ⊥
+no_kind kind none None end a is is_too = absurd (cc)
+no_kind kind none (Some x) end a is is_too =
+    elim x.body as (λ b. end_in b ≡ Some end → kind (Some (record x { body = b })) ≡ Some a → ⊥) [
       | body.Port p ↦ (λ h k. absurd (cc))
-      | body.End p ↦ (λ h k. absurd (cc))
+      | body.End e ↦ (λ h k. let no : kind (Some (record x { body = body.End e })) ≡ None = none x.id e in absurd (cc))
       | body.Set p ↦ (λ h k. absurd (cc))
       | body.Memory p ↦ (λ h k. absurd (cc))
     ] is is_too
+
+no_port : (o : Option Object) (end : ChannelEnd) (port : Port) → as_end o ≡ Some end → as_port o ≡ Some port → ⊥
+no_port = no_kind as_port (λ id end. refl)
 
 no_set : (o : Option Object) (end : ChannelEnd) (set : HandleSet) → as_end o ≡ Some end → as_set o ≡ Some set → ⊥
-no_set None end set is is_too = absurd (cc)
-no_set (Some x) end set is is_too =
-    elim x.body as (λ b. end_in b ≡ Some end → set_in b ≡ Some set → ⊥) [
-      | body.Port p ↦ (λ h k. absurd (cc))
-      | body.End p ↦ (λ h k. absurd (cc))
-      | body.Set p ↦ (λ h k. absurd (cc))
-      | body.Memory p ↦ (λ h k. absurd (cc))
-    ] is is_too
+no_set = no_kind as_set (λ id end. refl)
 
 no_memory : (o : Option Object) (end : ChannelEnd) (memory : MemoryRef) → as_end o ≡ Some end → as_memory o ≡ Some memory → ⊥
-no_memory None end memory is is_too = absurd (cc)
-no_memory (Some x) end memory is is_too =
-    elim x.body as (λ b. end_in b ≡ Some end → memory_in b ≡ Some memory → ⊥) [
-      | body.Port p ↦ (λ h k. absurd (cc))
-      | body.End p ↦ (λ h k. absurd (cc))
-      | body.Set p ↦ (λ h k. absurd (cc))
-      | body.Memory p ↦ (λ h k. absurd (cc))
-    ] is is_too
+no_memory = no_kind as_memory (λ id end. refl)
 
 pub end_there : (o : Option Object) (end : ChannelEnd) → as_end o ≡ Some end → is_some o ≡ true
 end_there None end is = absurd (cc)
